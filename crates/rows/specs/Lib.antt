@@ -1,0 +1,6 @@
+pub mod Printed
+pub mod Rows
+pub mod Column
+pub mod Lookup
+pub mod Layout
+pub mod Rules
