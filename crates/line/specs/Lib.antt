@@ -1,0 +1,6 @@
+pub mod State
+pub mod Poll
+pub mod Reply
+pub mod Byte97
+pub mod Inputs
+pub mod Laws

@@ -1,0 +1,223 @@
+// The line to the keyboard: LED and rate commands, the replies to them, and three sends of each byte.
+// Every value of these types has a meaning, reached or not, so no call asks anything of its caller.
+ghost use mathlib.Core.Path.{_≡_};
+ghost use Rattle.line.specs.State.{newLine, waitRateOf, sentOf, unchangedOf, isLedOf, ledRunsOf};
+ghost use Rattle.line.specs.Poll.{pollOf};
+ghost use Rattle.line.specs.Reply.{acknowledgeOf, resendOf, timeOutOf};
+ghost use Rattle.line.specs.Byte97.{byte97Of};
+
+mod polling;
+mod replies;
+
+// ED with the lamps, or F3 with the repeat rate.
+pub enum Kind {
+    Led,
+    Rate,
+}
+
+// A command that runs.
+pub struct Command {
+    pub kind: Kind,
+    // its second byte, fixed at the start
+    pub value: u8,
+    // the second byte is under way, not the first
+    pub operand: bool,
+    // sends of the byte under way
+    pub sends: u8,
+    // bytes sent since the start
+    pub sent: u8,
+}
+
+// A command awaits the reply to a send, or is ready for the poll that sends.
+pub enum Phase {
+    Idle,
+    Awaiting(Command),
+    Ready(Command),
+}
+
+// An operand that may be missing.
+pub enum Setting {
+    None,
+    Value(u8),
+}
+
+// What byte 97 shows of the past.
+pub struct Marks {
+    pub done: u8,
+    pub acknowledged: bool,
+    pub resend: bool,
+    pub abandoned: bool,
+}
+
+pub struct Line {
+    pub phase: Phase,
+    // the last LED value that was done or given up
+    pub handled: Setting,
+    // the rate that waits for its command
+    pub rate: Setting,
+    pub marks: Marks,
+}
+
+// What an idle poll starts: a command with its operand, or nothing.
+pub enum Next {
+    Nothing,
+    Start(Kind, u8),
+}
+
+pub enum Answer {
+    Send(u8),
+    Quiet,
+    Taken,
+    Ignored,
+    GivenUp,
+}
+
+pub struct Outcome {
+    pub line: Line,
+    pub answer: Answer,
+    // bytes sent by the command that runs, or that ends here
+    pub sent: u8,
+}
+
+// A line as made, and as a restart leaves it.
+pub fn new() -> Line
+    ensures { λ r. ⌜ r ≡ newLine ⌝ }
+{
+    Line {
+        phase: Phase::Idle,
+        handled: Setting::None,
+        rate: Setting::None,
+        marks: Marks {
+            done: 0,
+            acknowledged: false,
+            resend: false,
+            abandoned: false,
+        },
+    }
+}
+
+// A new waiting rate replaces one that waits; a command that runs keeps its own.
+pub fn wait_rate(line: Line, rate: u8) -> Line
+    ensures { λ r. ⌜ r ≡ waitRateOf line rate ⌝ }
+{
+    let phase = line.phase;
+    let handled = line.handled;
+    let marks = line.marks;
+    Line {
+        phase,
+        handled,
+        rate: Setting::Value(rate),
+        marks,
+    }
+}
+
+// The bytes sent by the command that runs, 0 without one.
+pub fn sent(line: Line) -> u8
+    ensures { λ r. ⌜ r ≡ sentOf line ⌝ }
+{
+    let phase = line.phase;
+    match phase {
+        Phase::Idle => 0,
+        Phase::Awaiting(command) => command.sent,
+        Phase::Ready(command) => command.sent,
+    }
+}
+
+// An answer that leaves the line as it is.
+fn unchanged(line: Line, answer: Answer) -> Outcome
+    ensures { λ r. ⌜ r ≡ unchangedOf line answer ⌝ }
+{
+    let sent = sent(line);
+    Outcome { line, answer, sent }
+}
+
+// A poll for a byte to send, with the LED value that stands now.
+pub fn poll(line: Line, led: u8) -> Outcome
+    ensures { λ r. ⌜ r ≡ pollOf line led ⌝ }
+{
+    let phase = line.phase;
+    match phase {
+        Phase::Idle => polling::idle_poll(line, led),
+        Phase::Awaiting(_) => unchanged(line, Answer::Quiet),
+        Phase::Ready(command) => polling::send(line, command),
+    }
+}
+
+// The reply FA.
+pub fn acknowledge(line: Line) -> Outcome
+    ensures { λ r. ⌜ r ≡ acknowledgeOf line ⌝ }
+{
+    let phase = line.phase;
+    match phase {
+        Phase::Idle => unchanged(line, Answer::Ignored),
+        Phase::Awaiting(command) => {
+            replies::acknowledged(replies::mark_acknowledged(line), command)
+        }
+        Phase::Ready(_) => unchanged(line, Answer::Ignored),
+    }
+}
+
+// The reply FE.
+pub fn resend(line: Line) -> Outcome
+    ensures { λ r. ⌜ r ≡ resendOf line ⌝ }
+{
+    let phase = line.phase;
+    match phase {
+        Phase::Idle => unchanged(line, Answer::Ignored),
+        Phase::Awaiting(command) => replies::failed(replies::mark_resend(line), command),
+        Phase::Ready(_) => unchanged(line, Answer::Ignored),
+    }
+}
+
+// No reply came in time.
+pub fn time_out(line: Line) -> Outcome
+    ensures { λ r. ⌜ r ≡ timeOutOf line ⌝ }
+{
+    let phase = line.phase;
+    match phase {
+        Phase::Idle => unchanged(line, Answer::Ignored),
+        Phase::Awaiting(command) => replies::failed(line, command),
+        Phase::Ready(_) => unchanged(line, Answer::Ignored),
+    }
+}
+
+fn is_led(command: Command) -> bool
+    ensures { λ r. ⌜ r ≡ isLedOf (command .kind) ⌝ }
+{
+    let kind = command.kind;
+    match kind {
+        Kind::Led => true,
+        Kind::Rate => false,
+    }
+}
+
+// Bit 6 of byte 97.
+fn led_runs(line: Line) -> bool
+    ensures { λ r. ⌜ r ≡ ledRunsOf line ⌝ }
+{
+    let phase = line.phase;
+    match phase {
+        Phase::Idle => false,
+        Phase::Awaiting(command) => is_led(command),
+        Phase::Ready(command) => is_led(command),
+    }
+}
+
+// Flag byte 97: a LED value has three bits, so the remainder is the value itself.
+pub fn byte97(line: Line) -> u8
+    ensures { λ r. ⌜ r ≡ byte97Of line ⌝ }
+{
+    let marks = line.marks;
+    let runs = led_runs(line);
+    let high = bits::byte(
+        false,
+        false,
+        false,
+        false,
+        marks.acknowledged,
+        marks.resend,
+        runs,
+        marks.abandoned,
+    );
+    marks.done % 8 + high
+}

@@ -1,0 +1,3 @@
+pub mod NothingSwallowed
+pub mod AltSumSettles
+pub mod LocksHold
