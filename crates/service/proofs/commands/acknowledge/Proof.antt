@@ -1,0 +1,19 @@
+-- The proof of `service::commands::acknowledge`.
+-- Assumes nothing.
+use Rattle.service.specs.Commands.{acknowledgeOf}
+use borrow.Author.Needs.{needs}
+use Rattle.service.proofs.commands.acknowledge.Statement.{statement}
+use Rattle.service.proofs.commands.acknowledge.Tie as tie
+
+acknowledge-requires : tie.Need-acknowledge-requires
+acknowledge-requires c κs = search needs
+
+apply-requires : tie.Need-apply-requires
+apply-requires c κs = search needs
+
+returns : tie.Need-returns
+unfolding acknowledgeOf
+returns c = simp (c .apply .ensures, ← (c .before .acknowledge .ensures))
+
+pub acknowledge-spec : {M : Type 1} → statement M
+acknowledge-spec = tie.close (tie.spec acknowledge-requires apply-requires returns)

@@ -1,0 +1,14 @@
+pub mod State
+pub mod Flags
+pub mod Answers
+pub mod Outcomes
+pub mod Keyboard
+pub mod Functions
+pub mod Commands
+pub mod Step
+pub mod Run
+pub mod Demand3
+pub mod BenchCases
+pub mod Sent
+pub mod Refused
+pub mod Queued
