@@ -1,0 +1,4 @@
+pub mod Reading
+pub mod Events
+pub mod Walk
+pub mod Packs

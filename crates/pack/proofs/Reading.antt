@@ -1,0 +1,82 @@
+-- What a reading comes to once the bytes are counted, as the code counts them.
+-- Assumes nothing.
+use Prim.Native.Nat.{ℕ, _-_, _≤_, _<_}
+use mathlib.Core.Path.{_≡_, refl}
+use mathlib.Core.List.{List, [], _∷_}
+use native.Mathlib.Omega.{arith}
+use borrow.Author.Tests.{lt-ltb, le-ltb}
+use denote.Enum.Declared.{tagOf}
+use types.Run.{OneOf, miss}
+use lib.ListN.{length, getD, take, drop, length-drop}
+use lib.Seq.{take-all}
+use Rattle.bits.specs.Choice.{if_then_else_}
+use Rattle.service.specs.declared.Event.the-variants.{Key, Call}
+use Rattle.pack.specs.declared.Read.{Read}
+use Rattle.pack.specs.declared.Read.the-variants as read
+use Rattle.pack.specs.Reading.{limit, keyOf, callOf, taggedOf, firstOf, readOf, restOf}
+use Rattle.pack.specs.Laws.{Stops}
+use Rattle.pack.proofs.Read as declared
+
+-- a part that ends where its slice ends
+pub to-end : (start : ℕ) (bytes : List ℕ) → take (length bytes - start) (drop start bytes) ≡ drop start bytes
+to-end start bytes = take-all (length bytes - start) (drop start bytes) (simp length-drop (omega arith))
+
+pub key-cut : (operands : List ℕ) → length operands < 1 → keyOf operands ≡ read.CutShort
+key-cut [] short = refl
+key-cut (byte ∷ later) short = absurd (omega arith)
+
+pub key-whole : (operands : List ℕ) → 1 ≤ length operands → keyOf operands ≡ read.Event (Key (getD operands 0 0)) 2
+key-whole [] long = absurd (omega arith)
+key-whole (byte ∷ later) long = refl
+
+pub call-cut : (operands : List ℕ) → length operands < 3 → callOf operands ≡ read.CutShort
+call-cut [] short = refl
+call-cut (function ∷ []) short = refl
+call-cut (function ∷ a ∷ []) short = refl
+call-cut (function ∷ a ∷ b ∷ later) short = absurd (omega arith)
+
+pub call-whole : (operands : List ℕ) → 3 ≤ length operands
+    → callOf operands ≡ read.Event (Call (getD operands 0 0) (getD operands 1 0) (getD operands 2 0)) 4
+call-whole [] long = absurd (omega arith)
+call-whole (function ∷ []) long = absurd (omega arith)
+call-whole (function ∷ a ∷ []) long = absurd (omega arith)
+call-whole (function ∷ a ∷ b ∷ later) long = refl
+
+pub first-none : (part : List ℕ) → length part < 1 → firstOf part ≡ read.End
+unfolding firstOf
+first-none [] none = refl
+first-none (tag ∷ operands) none = absurd (omega arith)
+
+pub first-some : (part : List ℕ) → 1 ≤ length part → firstOf part ≡ taggedOf (getD part 0 0) (drop 1 part)
+unfolding firstOf
+first-some [] some = absurd (omega arith)
+first-some (tag ∷ operands) some = refl
+
+pub read-too-long : (pack : List ℕ) (start : ℕ) → limit < length pack → readOf pack start ≡ read.TooLong
+unfolding readOf if_then_else_
+read-too-long pack start long = simp (lt-ltb limit (length pack) long)
+
+pub read-beyond : (pack : List ℕ) (start : ℕ) → length pack ≤ limit → length pack < start → readOf pack start ≡ read.Beyond
+unfolding readOf if_then_else_
+read-beyond pack start small beyond = simp (le-ltb limit (length pack) small, lt-ltb (length pack) start beyond)
+
+pub read-within : (pack : List ℕ) (start : ℕ) → length pack ≤ limit → start ≤ length pack → readOf pack start ≡ firstOf (drop start pack)
+unfolding readOf if_then_else_
+read-within pack start small within = simp (le-ltb limit (length pack) small, le-ltb (length pack) start within)
+
+-- the variants after the first are no event
+pub no-event : (found : Read) → OneOf (1 ∷ 2 ∷ 3 ∷ 4 ∷ 5 ∷ []) (tagOf declared.the-type found) → Stops found
+no-event (read.Event event bytes) other = miss (1 ∷ 2 ∷ 3 ∷ 4 ∷ 5 ∷ []) 0 tt other
+no-event read.End other = tt
+no-event read.UnknownTag other = tt
+no-event read.CutShort other = tt
+no-event read.TooLong other = tt
+no-event read.Beyond other = tt
+
+-- a part with no event is handed on as it is
+pub kept : (found : Read) (part : List ℕ) → Stops found → restOf found part ≡ part
+kept read.End part none = refl
+kept read.UnknownTag part none = refl
+kept read.CutShort part none = refl
+kept read.TooLong part none = refl
+kept read.Beyond part none = refl

@@ -1,0 +1,19 @@
+-- Document 01, "Events, as a pack encodes them", the other way: the bytes of a list of events.
+-- Assumes nothing.
+use Prim.Native.Nat.{ℕ}
+use mathlib.Core.List.{List, [], _∷_, _++_}
+use Rattle.service.specs.declared.Event.{Event}
+use Rattle.service.specs.declared.Event.the-variants.{Key, Call, Poll, TimeOut, Empty, Restart}
+use Rattle.pack.specs.Reading.{keyTag, callTag, pollTag, timeOutTag, emptyTag, restartTag}
+
+abbrev pub encodeEvent : Event → List ℕ
+encodeEvent (Key byte) = keyTag ∷ byte ∷ []
+encodeEvent (Call function a b) = callTag ∷ function ∷ a ∷ b ∷ []
+encodeEvent Poll = pollTag ∷ []
+encodeEvent TimeOut = timeOutTag ∷ []
+encodeEvent Empty = emptyTag ∷ []
+encodeEvent Restart = restartTag ∷ []
+
+unfoldable pub encode : List Event → List ℕ
+encode [] = []
+encode (event ∷ later) = encodeEvent event ++ encode later

@@ -1,0 +1,4 @@
+pub mod Reading
+pub mod Encoding
+pub mod Parsing
+pub mod Laws

@@ -1,0 +1,86 @@
+-- Document 01, "Events, as a pack encodes them", with refusals 6, 7, 8 and 10: what reading one event finds.
+-- Assumes nothing.
+use Prim.Native.Nat.{ℕ}
+use mathlib.Core.List.{List, [], _∷_}
+use lib.Dec.{eqb, ltb}
+use lib.ListN.{length, drop}
+use Rattle.bits.specs.Choice.{if_then_else_}
+use Rattle.service.specs.declared.Event.the-variants.{Key, Call, Poll, TimeOut, Empty, Restart}
+use Rattle.pack.specs.declared.Read.{Read}
+use Rattle.pack.specs.declared.Read.the-variants as read
+
+-- the most bytes that a pack may have
+abbrev pub limit : ℕ
+limit = 32768
+
+-- the tags, ASCII capitals: K C P T E R
+abbrev pub keyTag : ℕ
+keyTag = 0x4B
+
+abbrev pub callTag : ℕ
+callTag = 0x43
+
+abbrev pub pollTag : ℕ
+pollTag = 0x50
+
+abbrev pub timeOutTag : ℕ
+timeOutTag = 0x54
+
+abbrev pub emptyTag : ℕ
+emptyTag = 0x45
+
+abbrev pub restartTag : ℕ
+restartTag = 0x52
+
+-- K b, two bytes; refusal 7 where b is missing
+abbrev pub keyOf : List ℕ → Read
+keyOf [] = read.CutShort
+keyOf (byte ∷ later) = read.Event (Key byte) 2
+
+-- C f a b, four bytes; refusal 7 where one is missing, also one that the function does not use
+abbrev pub callOf : List ℕ → Read
+callOf [] = read.CutShort
+callOf (function ∷ []) = read.CutShort
+callOf (function ∷ a ∷ []) = read.CutShort
+callOf (function ∷ a ∷ b ∷ later) = read.Event (Call function a b) 4
+
+-- the event of a tag, with the bytes after it; P, T, E and R are the tag alone; refusal 6 for any other tag
+unfoldable pub taggedOf : ℕ → List ℕ → Read
+taggedOf tag operands =
+    if eqb tag keyTag then keyOf operands
+    else if eqb tag callTag then callOf operands
+    else if eqb tag pollTag then read.Event Poll 1
+    else if eqb tag timeOutTag then read.Event TimeOut 1
+    else if eqb tag emptyTag then read.Event Empty 1
+    else if eqb tag restartTag then read.Event Restart 1
+    else read.UnknownTag
+
+-- the first event of a part; an empty part is the end
+unfoldable pub firstOf : List ℕ → Read
+firstOf [] = read.End
+firstOf (tag ∷ operands) = taggedOf tag operands
+
+-- the event at a start in a pack; refusal 8 before 10, and the start at the length is the end
+unfoldable pub readOf : List ℕ → ℕ → Read
+readOf pack start =
+    if ltb limit (length pack) then read.TooLong
+    else if ltb (length pack) start then read.Beyond
+    else firstOf (drop start pack)
+
+-- what is handed on after a reading: the part after the event, or the part as it is where none was read
+abbrev pub restOf : Read → List ℕ → List ℕ
+restOf (read.Event event bytes) part = drop bytes part
+restOf read.End part = part
+restOf read.UnknownTag part = part
+restOf read.CutShort part = part
+restOf read.TooLong part = part
+restOf read.Beyond part = part
+
+-- the number of the refusal, 0 for an event or the end
+abbrev pub refusalOf : Read → ℕ
+refusalOf (read.Event event bytes) = 0
+refusalOf read.End = 0
+refusalOf read.UnknownTag = 6
+refusalOf read.CutShort = 7
+refusalOf read.TooLong = 8
+refusalOf read.Beyond = 10

@@ -1,0 +1,128 @@
+// Packs: one event is read from a part of a pack, and the part after it is handed on.
+ghost use mathlib.Core.Path.{_≡_};
+ghost use Rattle.pack.specs.Reading.{keyOf, callOf, taggedOf, firstOf, readOf, restOf, refusalOf};
+use service::Event;
+
+// The most bytes that a pack may have.
+pub const LIMIT: usize = 32768;
+
+// The tags, ASCII capitals.
+const KEY: u8 = 0x4B;
+
+const CALL: u8 = 0x43;
+
+const POLL: u8 = 0x50;
+
+const TIME_OUT: u8 = 0x54;
+
+const EMPTY: u8 = 0x45;
+
+const RESTART: u8 = 0x52;
+
+// What a reading finds: an event with the count of its bytes, the end, or why there is neither.
+pub enum Read {
+    Event(Event, usize),
+    End,
+    UnknownTag,
+    CutShort,
+    TooLong,
+    Beyond,
+}
+
+// The number of a refusal, 0 for an event or the end.
+pub fn refusal(read: Read) -> u8
+    ensures { λ r. ⌜ r ≡ refusalOf read ⌝ }
+{
+    match read {
+        Read::Event(_, _) => 0,
+        Read::End => 0,
+        Read::UnknownTag => 6,
+        Read::CutShort => 7,
+        Read::TooLong => 8,
+        Read::Beyond => 10,
+    }
+}
+
+// K b, from the bytes after the tag.
+fn read_key(operands: &[u8]) -> Read
+    ensures { λ r. ⌜ r ≡ keyOf (now (operands .entry)) ⌝ }
+{
+    if operands.len() < 1 {
+        return Read::CutShort;
+    }
+    let byte = operands[0];
+    Read::Event(Event::Key(byte), 2)
+}
+
+// C f a b, from the bytes after the tag.
+fn read_call(operands: &[u8]) -> Read
+    ensures { λ r. ⌜ r ≡ callOf (now (operands .entry)) ⌝ }
+{
+    if operands.len() < 3 {
+        return Read::CutShort;
+    }
+    let function = operands[0];
+    let a = operands[1];
+    let b = operands[2];
+    Read::Event(Event::Call(function, a, b), 4)
+}
+
+// The event of a tag and the bytes after it. P, T, E and R have no operands.
+fn read_tagged(tag: u8, operands: &[u8]) -> Read
+    ensures { λ r. ⌜ r ≡ taggedOf tag (now (operands .entry)) ⌝ }
+{
+    if tag == KEY {
+        return read_key(operands);
+    }
+    if tag == CALL {
+        return read_call(operands);
+    }
+    if tag == POLL {
+        return Read::Event(Event::Poll, 1);
+    }
+    if tag == TIME_OUT {
+        return Read::Event(Event::TimeOut, 1);
+    }
+    if tag == EMPTY {
+        return Read::Event(Event::Empty, 1);
+    }
+    if tag == RESTART {
+        return Read::Event(Event::Restart, 1);
+    }
+    Read::UnknownTag
+}
+
+// The first event of a part.
+pub fn read_first(part: &[u8]) -> Read
+    ensures { λ r. ⌜ r ≡ firstOf (now (part .entry)) ⌝ }
+{
+    if part.len() == 0 {
+        return Read::End;
+    }
+    let tag = part[0];
+    read_tagged(tag, &part[1..])
+}
+
+// The event at a start in a pack.
+pub fn read_event(pack: &[u8], start: usize) -> Read
+    ensures { λ r. ⌜ r ≡ readOf (now (pack .entry)) start ⌝ }
+{
+    if LIMIT < pack.len() {
+        return Read::TooLong;
+    }
+    if pack.len() < start {
+        return Read::Beyond;
+    }
+    read_first(&pack[start..])
+}
+
+// The part after the first event. A part without one is handed on as it is.
+pub fn rest(part: &[u8]) -> &[u8]
+    ensures { λ r. ⌜ now r ≡ restOf (firstOf (now (part .entry))) (now (part .entry)) ⌝ }
+{
+    let read = read_first(part);
+    let Read::Event(_, bytes) = read else {
+        return part;
+    };
+    &part[bytes..]
+}

@@ -1,0 +1,104 @@
+-- The laws that BufferLaws.antt of specs/ states.
+-- Assumes nothing.
+use Prim.Native.Nat.{ℕ, _<_, _≤_}
+use mathlib.Core.Path.{_≡_, sym}
+use mathlib.Core.Bool.{true}
+use mathlib.Core.List.{List, [], _∷_, _++_}
+use lib.ListN.{length, drop, length-drop}
+use native.Mathlib.Omega.{arith}
+use borrow.Author.Tests.{ltb-true, lt-ltb, le-ltb}
+use Rattle.bits.specs.Choice.{if_then_else_}
+use Rattle.bits.proofs.Choice.{by-test}
+use Rattle.service.specs.declared.Service.{Service}
+use Rattle.service.specs.declared.Event.{Event}
+use Rattle.service.specs.declared.Refusal.{Refusal}
+use Rattle.service.specs.declared.Refusal.the-variants as refusal
+use Rattle.service.specs.declared.Answer.{Answer}
+use Rattle.service.specs.declared.Answer.the-variants.{Nothing, Put, Dropped, Break, RestartAsked, Overrun, Taken, Ignored, Returned, NoWord, Status, Done, Stored, Send, Quiet, GivenUp, Refused}
+use Rattle.service.specs.Answers.{ansOf}
+use Rattle.service.specs.Step.{stepOf}
+use Rattle.service.specs.Run.{shownOf, next}
+use Rattle.service.specs.Refused.{isRefusal}
+use Rattle.service.proofs.RefusedCalls.{refused-calls-change-nothing}
+use Rattle.report.specs.declared.Reported.{Reported}
+use Rattle.report.specs.Report.{reportOf}
+use Rattle.report.specs.Text.{textOf}
+use Rattle.report.specs.Reported.{reportLength, eventReport, refusalIn, tooShort, reportedOf, bufferOf}
+use Rattle.report.specs.BufferLaws.{ShortRefused, LongWritten, NineIsShort, RefusedCallWritten, FlagsAfter}
+
+pub short-refused : ShortRefused
+unfolding reportedOf bufferOf if_then_else_
+short-refused service event buffer short = let test = lt-ltb _ _ short in record { result = simp test; unwritten = simp test }
+
+-- the definitions on a buffer that is long enough
+module _ (service : Service) (event : Event) (buffer : List ℕ) (long : reportLength ≤ length buffer) where
+  pub long-reported : reportedOf service event buffer ≡ record { refusal = refusalIn (eventReport service event .ans); service = next service event }
+  unfolding reportedOf if_then_else_
+  long-reported = simp (le-ltb (length buffer) reportLength long)
+
+  pub long-buffer : bufferOf service event buffer ≡ textOf (eventReport service event) ++ drop reportLength buffer
+  unfolding bufferOf if_then_else_
+  long-buffer = simp (le-ltb (length buffer) reportLength long)
+
+pub long-written : LongWritten
+unfolding textOf
+long-written service event buffer long =
+    let whole = long-buffer service event buffer long in
+    record {
+      after = rw (long-reported service event buffer long);
+      text = rw whole;
+      tail = rw whole;
+      size = rw whole (omega (arith, length-drop reportLength buffer));
+    }
+
+-- no answer refuses by a number above 5
+at-most-five : (answer : Answer) → refusalIn (ansOf answer) ≤ 5
+at-most-five Nothing = omega arith
+at-most-five (Put word) = omega arith
+at-most-five (Dropped word) = omega arith
+at-most-five Break = omega arith
+at-most-five RestartAsked = omega arith
+at-most-five Overrun = omega arith
+at-most-five Taken = omega arith
+at-most-five Ignored = omega arith
+at-most-five (Returned word) = omega arith
+at-most-five NoWord = omega arith
+at-most-five (Status status) = omega arith
+at-most-five Done = omega arith
+at-most-five (Stored word) = omega arith
+at-most-five (Send byte) = omega arith
+at-most-five Quiet = omega arith
+at-most-five GivenUp = omega arith
+at-most-five (Refused refusal.Function) = omega arith
+at-most-five (Refused refusal.Delay) = omega arith
+at-most-five (Refused refusal.Rate) = omega arith
+at-most-five (Refused refusal.Full) = omega arith
+
+pub nine-is-short : NineIsShort
+unfolding reportedOf reportOf
+nine-is-short service event buffer =
+    by-test (λ (reported : Reported). reported .refusal ≡ 9 → length buffer < reportLength) (tooShort buffer) _ _
+    (λ short nine. ltb-true _ _ short)
+    (λ long nine. absurd (omega (arith, at-most-five (stepOf service event .answer))))
+
+-- a refused event leaves the service: taken out of the list of itself, it leaves the same service behind
+refused-keeps : (service : Service) (event : Event) (refusal : Refusal) → stepOf service event .answer ≡ Refused refusal → next service event ≡ service
+unfolding if_then_else_
+refused-keeps service event refusal refused =
+    let above : isRefusal (shownOf (stepOf service event)) ≡ true = rw refused (lt-ltb 0x7F (ansOf (Refused refusal)) (omega arith)) in
+    sym (simp above at (refused-calls-change-nothing service (event ∷ []) .last))
+
+pub refused-call-written : RefusedCallWritten
+unfolding reportOf
+refused-call-written service event buffer refusal long refused =
+    let whole = long-reported service event buffer long in
+    record {
+      number = rw (whole, refused) (omega arith);
+      kept = rw whole (refused-keeps service event refusal refused);
+      ans = rw refused;
+      word = rw refused;
+    }
+
+pub flags-after : FlagsAfter
+unfolding textOf reportOf
+flags-after service event buffer long = rw (long-buffer service event buffer long, long-reported service event buffer long)

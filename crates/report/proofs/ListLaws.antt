@@ -1,0 +1,32 @@
+-- The laws that ListLaws.antt of specs/ states.
+-- Assumes nothing.
+use mathlib.Core.Path.{_≡_, refl, ap}
+use mathlib.Core.List.{[], _∷_}
+use native.Mathlib.Omega.{arith}
+use Rattle.service.specs.State.{newService}
+use Rattle.service.specs.Step.{stepOf}
+use Rattle.service.specs.Run.{Shown, shownOf, next, run, after}
+use Rattle.service.proofs.Resynchronised.{demand-3}
+use Rattle.service.proofs.SentCounts.{sent-at-most-six}
+use Rattle.report.specs.Report.{tagOf, reportFrom, reportOf}
+use Rattle.report.specs.Text.{textOf}
+use Rattle.report.specs.ListLaws.{RunPrints, Demand3Printed, SentOnOneDigit}
+use Rattle.report.proofs.DigitFacts.{digit-value}
+
+pub run-prints : RunPrints
+unfolding reportOf
+run-prints a b [] e = refl
+run-prints a b (event ∷ more) e =
+    let first : shownOf (stepOf a event) ≡ shownOf (stepOf b event) = cc in
+    let later : run (next a event) more ≡ run (next b event) more = cc in
+    let text = ap (λ (shown : Shown). textOf (reportFrom (tagOf event) shown)) first in
+    rw (text, run-prints (next a event) (next b event) more later)
+
+pub demand-3-printed : Demand3Printed
+demand-3-printed locks most first further = run-prints _ _ further (demand-3 locks most first further)
+
+pub sent-on-one-digit : SentOnOneDigit
+unfolding textOf reportOf
+sent-on-one-digit locks events event =
+    let sent = stepOf (after (newService locks) events) event .sent in
+    omega (arith, digit-value sent, sent-at-most-six locks events event)

@@ -1,0 +1,126 @@
+// The report of an event: 44 bytes of text, and the call that runs an event and writes its report to a lent buffer.
+ghost use mathlib.Core.Path.{_≡_};
+ghost use Rattle.report.specs.Report.{tagOf, reportOf};
+ghost use Rattle.report.specs.Text.{textOf};
+ghost use Rattle.report.specs.Reported.{refusalIn, reportedOf, bufferOf};
+use service::Event;
+use service::Outcome;
+use service::Service;
+use service::answers;
+use service::flags;
+
+pub mod digits;
+
+// The length of every report.
+pub const LENGTH: usize = 44;
+
+// The five lines, with a point for each character that a report fills in.
+const BLANK: [u8; LENGTH] = *b"ev=.\nans=..\nword=....\nflags=........\nsent=.\n";
+
+// What the text of an event shows. The flag bytes are those after the event.
+pub struct Report {
+    pub tag: u8,
+    pub ans: u8,
+    pub word: u16,
+    pub byte17: u8,
+    pub byte18: u8,
+    pub byte96: u8,
+    pub byte97: u8,
+    pub sent: u8,
+}
+
+// What a reported event leaves. The refusal is 9 where no event was run, 2 to 5 where the event is a call refused by that number, else 0.
+pub struct Reported {
+    pub refusal: u8,
+    pub service: Service,
+}
+
+// The capital by which a pack names the event.
+fn tag(event: Event) -> u8
+    ensures { λ r. ⌜ r ≡ tagOf event ⌝ }
+{
+    match event {
+        Event::Key(_) => b'K',
+        Event::Call(_, _, _) => b'C',
+        Event::Poll => b'P',
+        Event::TimeOut => b'T',
+        Event::Empty => b'E',
+        Event::Restart => b'R',
+    }
+}
+
+// The report of an event, from what it left and answered.
+pub fn report_of(event: Event, outcome: Outcome) -> Report
+    ensures { λ r. ⌜ r ≡ reportOf event outcome ⌝ }
+{
+    let after = outcome.service;
+    let answer = outcome.answer;
+    Report {
+        tag: tag(event),
+        ans: answers::number(answer),
+        word: answers::word(answer),
+        byte17: flags::byte17(after),
+        byte18: flags::byte18(after),
+        byte96: flags::byte96(after),
+        byte97: flags::byte97(after),
+        sent: outcome.sent,
+    }
+}
+
+// The 44 bytes of a report.
+pub fn text(report: Report) -> [u8; LENGTH]
+    ensures { λ r. ⌜ r ≡ textOf report ⌝ }
+{
+    let high = digits::high_byte(report.word);
+    let low = digits::low_byte(report.word);
+    let mut text = BLANK;
+    text[3] = report.tag;
+    text[9] = digits::high(report.ans);
+    text[10] = digits::low(report.ans);
+    text[17] = digits::high(high);
+    text[18] = digits::low(high);
+    text[19] = digits::high(low);
+    text[20] = digits::low(low);
+    text[28] = digits::high(report.byte17);
+    text[29] = digits::low(report.byte17);
+    text[30] = digits::high(report.byte18);
+    text[31] = digits::low(report.byte18);
+    text[32] = digits::high(report.byte96);
+    text[33] = digits::low(report.byte96);
+    text[34] = digits::high(report.byte97);
+    text[35] = digits::low(report.byte97);
+    text[42] = digits::digit(report.sent);
+    text
+}
+
+// The number of the refusal that an ans shows, 0 if it shows none.
+fn refusal(ans: u8) -> u8
+    ensures { λ r. ⌜ r ≡ refusalIn ans ⌝ }
+{
+    if ans < 0x80 {
+        return 0;
+    }
+    ans - 0x80
+}
+
+// Runs an event and writes its report to the start of the buffer; a buffer that is too short is refused before the event runs.
+pub fn report_event(service: Service, event: Event, buffer: &mut [u8]) -> Reported
+    ensures { λ r. ⌜ r ≡ reportedOf service event (now (buffer .entry)) ⌝ }
+    ensures { λ _. ⌜ now (buffer .exit) ≡ bufferOf service event (now (buffer .entry)) ⌝ }
+{
+    if buffer.len() < LENGTH {
+        return Reported {
+            refusal: 9,
+            service,
+        };
+    }
+    let outcome = service::step(service, event);
+    let report = report_of(event, outcome);
+    let text = text(report);
+    bytes::copy(&text, buffer);
+    let after = outcome.service;
+    Reported {
+        refusal: refusal(report.ans),
+        service: after,
+    }
+}

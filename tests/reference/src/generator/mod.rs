@@ -1,0 +1,60 @@
+//! Packs to compare programs with: systematic ones for every rule, and random mixes.
+
+mod calls;
+mod keys;
+mod line;
+mod mixes;
+mod prefixes;
+mod queue;
+mod random;
+mod refused;
+mod writer;
+
+pub use mixes::{random_events, Flavour, FLAVOURS};
+pub use random::Random;
+pub use writer::{Writer, ALL_UP_RUN};
+
+use crate::pack::MAXIMUM_PACK;
+
+/// A generated pack and the name of the rule it tries.
+pub struct Pack {
+    pub kind: &'static str,
+    pub bytes: Vec<u8>,
+}
+
+/// All packs, the same at every call.
+pub fn packs() -> Vec<Pack> {
+    let mut packs = Vec::new();
+    keys::add(&mut packs);
+    prefixes::add(&mut packs);
+    line::add(&mut packs);
+    queue::add(&mut packs);
+    calls::add(&mut packs);
+    refused::add(&mut packs);
+    mixes::add(&mut packs);
+    packs
+}
+
+/// Adds the cases joined to as few packs as the longest pack allows.
+fn add_joined(packs: &mut Vec<Pack>, kind: &'static str, cases: impl Iterator<Item = Writer>) {
+    let mut bytes = Vec::new();
+    for case in cases {
+        let case = case.into_bytes();
+        if bytes.len() + case.len() > MAXIMUM_PACK {
+            packs.push(Pack {
+                kind,
+                bytes: std::mem::take(&mut bytes),
+            });
+        }
+        bytes.extend(case);
+    }
+    packs.push(Pack { kind, bytes });
+}
+
+/// All lists of `length` places below `choices`, in order.
+fn choices(choices: usize, length: u32) -> impl Iterator<Item = Vec<usize>> {
+    (0..choices.pow(length)).map(move |number| {
+        let digit = |place| number / choices.pow(place) % choices;
+        (0..length).map(digit).collect()
+    })
+}

@@ -1,0 +1,23 @@
+//! Reference of the aisle panel's keyboard service, written from its description alone, to be
+//! compared with the delivered program. It shares nothing with the delivered code.
+//!
+//! Programs: `reference-trace` prints the trace of the pack on standard input; `compare PROGRAM`
+//! runs a program on every generated pack and shows the first difference; `generate FOLDER` writes
+//! the generated packs; `store FOLDER` writes the kept packs with their names and texts.
+
+pub mod answer;
+pub mod flags;
+pub mod generator;
+pub mod line;
+pub mod pack;
+pub mod prefix;
+pub mod queue;
+pub mod report;
+pub mod rows;
+pub mod service;
+pub mod stored;
+pub mod vectors;
+
+pub use pack::{read_event, Event, MAXIMUM_PACK};
+pub use report::{report, trace, REPORT_LENGTH};
+pub use service::{Outcome, Service};

@@ -1,0 +1,118 @@
+//! What holds after every event, over random lists.
+
+use reference::generator::{random_events, Random, FLAVOURS};
+use reference::{report, Event, Outcome, Service, REPORT_LENGTH};
+
+const EVENTS: usize = 200_000;
+
+/// Runs long random lists and shows each step: the service before, the event, its outcome and
+/// the service after.
+fn each_step(mut check: impl FnMut(&Service, &Event, &Outcome, &Service)) {
+    let mut random = Random::new(16);
+    for (place, flavour) in FLAVOURS.into_iter().enumerate() {
+        let mut service = Service::new(5 * place as u8).unwrap();
+        for event in random_events(&mut random, flavour, EVENTS) {
+            let before = service.clone();
+            let outcome = service.event(&event);
+            check(&before, &event, &outcome, &service);
+        }
+    }
+}
+
+#[test]
+fn sum_is_zero_without_alt() {
+    let mut sums = 0;
+    each_step(|_, _, outcome, service| {
+        let alt = outcome.flags[0] & 0x08 != 0;
+        assert!(alt || service.alt_sum() == 0);
+        sums += usize::from(service.alt_sum() > 0);
+    });
+    assert!(sums > 1_000, "the lists hold sums");
+}
+
+#[test]
+fn flag_bytes_are_consistent() {
+    each_step(|_, _, outcome, service| {
+        let [byte_17, byte_18, byte_96, byte_97] = outcome.flags;
+        assert_eq!(outcome.flags, service.flag_bytes());
+        assert_eq!(
+            byte_17 & 0x04 != 0,
+            byte_18 & 0x01 != 0 || byte_96 & 0x04 != 0
+        );
+        assert_eq!(
+            byte_17 & 0x08 != 0,
+            byte_18 & 0x02 != 0 || byte_96 & 0x08 != 0
+        );
+        assert_ne!(byte_96 & 0x03, 0x03, "one prefix at a time");
+        assert_eq!(byte_96 & 0xF0, 0);
+        assert_eq!(byte_97 & 0x08, 0);
+    });
+}
+
+#[test]
+fn bytes_sent_stay_in_bounds() {
+    let mut most = 0;
+    each_step(|_, event, outcome, _| {
+        most = most.max(outcome.sent);
+        assert!(outcome.sent <= 6);
+        assert!(outcome.sent > 0 || outcome.ans != 0x0C);
+        assert!(outcome.sent == 0 || *event != Event::Restart);
+    });
+    assert_eq!(most, 6, "the lists reach the most sends");
+}
+
+#[test]
+fn refused_call_changes_nothing() {
+    let mut seen = [0; 4];
+    each_step(|before, _, outcome, after| {
+        if outcome.ans >= 0x80 {
+            assert_eq!(before, after);
+            assert_eq!(outcome.word, 0);
+            seen[usize::from(outcome.ans - 0x82)] += 1;
+        }
+    });
+    assert!(seen.iter().all(|&count| count > 0), "each refusal is met");
+}
+
+#[test]
+fn every_answer_is_met() {
+    let mut seen = [false; 256];
+    each_step(|_, _, outcome, _| seen[usize::from(outcome.ans)] = true);
+    let expected = |ans: usize| ans <= 0x0E || (0x82..=0x85).contains(&ans);
+    assert!((0..256).all(|ans| seen[ans] == expected(ans)));
+}
+
+#[test]
+fn only_fifteen_locks_are_made() {
+    for locks in 0..=255 {
+        let flags = Service::new(locks).map(|service| service.flag_bytes());
+        let expected = if locks > 15 {
+            Err(1)
+        } else {
+            Ok([locks << 4, 0, 0, 0])
+        };
+        assert_eq!(flags, expected);
+    }
+}
+
+#[test]
+fn short_buffer_is_refused_before_all_else() {
+    let mut service = Service::unlocked();
+    for event in [Event::Poll, Event::Call(0xFF, 0, 0), Event::Key(0x2A)] {
+        let mut buffer = [0xA5; REPORT_LENGTH - 1];
+        assert_eq!(service.reported_event(&event, &mut buffer), Err(9));
+        assert_eq!(buffer, [0xA5; REPORT_LENGTH - 1]);
+        assert_eq!(service, Service::unlocked());
+    }
+}
+
+#[test]
+fn long_buffer_keeps_its_tail() {
+    for event in [Event::Poll, Event::Call(0xFF, 0, 0), Event::Key(0x2A)] {
+        let mut buffer = [0xA5; REPORT_LENGTH + 3];
+        let outcome = Service::unlocked().reported_event(&event, &mut buffer);
+        let (text, tail) = buffer.split_at(REPORT_LENGTH);
+        assert_eq!(text, report(&event, &outcome.unwrap()));
+        assert_eq!(tail, [0xA5; 3]);
+    }
+}
