@@ -1,0 +1,70 @@
+-- The service, the replies and the outcomes as plain data.
+-- Assumes nothing.
+use mathlib.Core.Path.{refl}
+use mathlib.Core.List.{[]}
+use mir.Syntax.{Ty, tyNamed, w8}
+use denote.Struct.Laws as LL
+use Rattle.service.proofs.Service as Service
+use Rattle.service.proofs.Service.Laws as Service′
+use Rattle.service.proofs.Event as Event
+use Rattle.service.proofs.Event.Laws as Event′
+use Rattle.lent.proofs.Reply as Reply
+use Rattle.lent.proofs.Reply.Laws as Reply′
+use Rattle.lent.proofs.Stepped as Stepped
+use Rattle.lent.proofs.Stepped.Laws as Stepped′
+use Rattle.lent.proofs.Tried as Tried
+use Rattle.lent.proofs.Tried.Laws as Tried′
+use Rattle.lent.proofs.Plain.{Plain, number, struct, enum, Outcome}
+
+abbrev pub service : Plain
+service = struct Service.the-type Service′.the-laws Service′.the-plain
+
+abbrev pub service-name : Ty
+service-name = tyNamed (Service.the-type .name, [])
+
+abbrev pub byte : Plain
+byte = number w8
+
+abbrev pub event : Plain
+event = enum Event.the-type Event′.the-laws Event′.the-plain tt
+
+abbrev pub reply : Plain
+reply = struct Reply.the-type Reply′.the-laws Reply′.the-plain
+
+abbrev pub stepped : Outcome service reply
+stepped = record {
+  Denot = Stepped.the-type .D;
+  left = λ r. r .service;
+  reply = λ r. r .reply;
+  make = λ x y. record { service = x; reply = y };
+  eta = λ r. refl;
+  name = Stepped.the-type .name;
+  written = Stepped.the-row .written;
+  reaches = Stepped.the-row .reaches;
+  own = Stepped.the-row .own;
+  coded = Stepped.the-row .coded;
+  tells = LL.tells Stepped.the-type Stepped′.the-laws;
+  typed = λ 𝓤 H A W r v is. LL.lawful Stepped.the-type Stepped′.the-laws 𝓤 H A W .typed r _ is .0;
+  makes = λ 𝓤 H A W. LL.makes Stepped.the-type Stepped′.the-plain 𝓤 H A;
+  parts = λ r vs is. let of = LL.owed Stepped.the-type Stepped′.the-laws r vs is in (of .0, of .1 .0);
+  owes = λ x y is-x is-y. LL.owes Stepped.the-type Stepped′.the-laws (record { service = x; reply = y }) (is-x, (is-y, tt));
+}
+
+abbrev pub tried : Outcome service byte
+tried = record {
+  Denot = Tried.the-type .D;
+  left = λ r. r .service;
+  reply = λ r. r .refusal;
+  make = λ x y. record { service = x; refusal = y };
+  eta = λ r. refl;
+  name = Tried.the-type .name;
+  written = Tried.the-row .written;
+  reaches = Tried.the-row .reaches;
+  own = Tried.the-row .own;
+  coded = Tried.the-row .coded;
+  tells = LL.tells Tried.the-type Tried′.the-laws;
+  typed = λ 𝓤 H A W r v is. LL.lawful Tried.the-type Tried′.the-laws 𝓤 H A W .typed r _ is .0;
+  makes = λ 𝓤 H A W. LL.makes Tried.the-type Tried′.the-plain 𝓤 H A;
+  parts = λ r vs is. let of = LL.owed Tried.the-type Tried′.the-laws r vs is in (of .0, of .1 .0);
+  owes = λ x y is-x is-y. LL.owes Tried.the-type Tried′.the-laws (record { service = x; refusal = y }) (is-x, (is-y, tt));
+}

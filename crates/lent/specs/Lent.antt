@@ -1,0 +1,54 @@
+-- What a lent call leaves in the service, and what it returns: the core's outcome, in two parts.
+-- Assumes nothing.
+use Prim.Native.Nat.{ℕ}
+use mathlib.Core.List.{List}
+use lib.Dec.{eqb}
+use Rattle.bits.specs.Choice.{if_then_else_}
+use Rattle.service.specs.declared.Service.{Service}
+use Rattle.service.specs.declared.Event.{Event}
+use Rattle.service.specs.declared.Outcome.{Outcome}
+use Rattle.service.specs.declared.Made.{Made}
+use Rattle.service.specs.State.{makeOf}
+use Rattle.service.specs.Keyboard.{keyOf}
+use Rattle.service.specs.Functions.{callOf}
+use Rattle.service.specs.Commands.{pollOf}
+use Rattle.service.specs.Step.{stepOf}
+use Rattle.report.specs.declared.Reported.{Reported}
+use Rattle.report.specs.Reported.{reportedOf}
+use Rattle.lent.specs.declared.Reply.{Reply}
+use Rattle.lent.specs.declared.Stepped.{Stepped}
+use Rattle.lent.specs.declared.Tried.{Tried}
+
+-- a service that was made replaces the one lent; a refusal leaves that one as it was
+abbrev pub triedOf : Service → Made → Tried
+triedOf service made =
+    if eqb (made .refusal) 0 then record { service = made .service; refusal = 0 }
+    else record { service = service; refusal = made .refusal }
+
+unfoldable pub madeIn : Service → ℕ → Tried
+madeIn service bits = triedOf service (makeOf bits)
+
+abbrev pub replyOf : Outcome → Reply
+replyOf outcome = record { answer = outcome .answer; sent = outcome .sent }
+
+abbrev pub steppedOf : Outcome → Stepped
+steppedOf outcome = record { service = outcome .service; reply = replyOf outcome }
+
+unfoldable pub eventIn : Service → Event → Stepped
+eventIn service event = steppedOf (stepOf service event)
+
+unfoldable pub keyIn : Service → ℕ → Stepped
+keyIn service byte = steppedOf (keyOf service byte)
+
+unfoldable pub callIn : Service → ℕ → ℕ → ℕ → Stepped
+callIn service function a b = steppedOf (callOf service function a b)
+
+unfoldable pub pollIn : Service → Stepped
+pollIn service = steppedOf (pollOf service)
+
+abbrev pub tellsOf : Reported → Tried
+tellsOf reported = record { service = reported .service; refusal = reported .refusal }
+
+-- 9 leaves the service as it was, and so do 2 to 5
+unfoldable pub reportedIn : Service → Event → List ℕ → Tried
+reportedIn service event buffer = tellsOf (reportedOf service event buffer)

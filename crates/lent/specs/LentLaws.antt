@@ -1,0 +1,46 @@
+-- What holds of the lent calls: a refusal leaves the service as it was, and 9 the buffer too. LentLaws.antt of proofs/ proves each sentence.
+-- Assumes nothing.
+use Prim.Native.Nat.{ℕ, _<_, _≤_}
+use mathlib.Core.Path.{_≡_}
+use mathlib.Core.List.{List}
+use lib.ListN.{length}
+use Rattle.service.specs.declared.Service.{Service}
+use Rattle.service.specs.declared.Event.{Event}
+use Rattle.service.specs.declared.Event.the-variants.{Key, Call, Poll}
+use Rattle.service.specs.declared.Refusal.{Refusal}
+use Rattle.service.specs.declared.Answer.the-variants.{Refused}
+use Rattle.service.specs.State.{newService}
+use Rattle.service.specs.Step.{stepOf}
+use Rattle.report.specs.Reported.{reportLength, bufferOf}
+use Rattle.lent.specs.Lent.{madeIn, eventIn, keyIn, callIn, pollIn, reportedIn}
+
+-- 1: lock bits above 15 leave the service that is lent; others make a new one of it
+pub record Makes : Type 0 where
+  pub refused : (service : Service) (bits : ℕ) → 15 < bits → madeIn service bits ≡ record { service = service; refusal = 1 }
+  pub made : (service : Service) (bits : ℕ) → bits ≤ 15 → madeIn service bits ≡ record { service = newService bits; refusal = 0 }
+
+-- 2 to 5: an event that is refused
+abbrev pub RefusedLeaves : Type 0
+RefusedLeaves =
+    (service : Service) (event : Event) (refusal : Refusal) → eventIn service event .reply .answer ≡ Refused refusal →
+    eventIn service event .service ≡ service
+
+-- the calls for one kind of event are that event
+pub record OneKind : Type 0 where
+  pub key : (service : Service) (byte : ℕ) → keyIn service byte ≡ eventIn service (Key byte)
+  pub call : (service : Service) (function a b : ℕ) → callIn service function a b ≡ eventIn service (Call function a b)
+  pub poll : (service : Service) → pollIn service ≡ eventIn service Poll
+
+-- 9 leaves the service and every byte of the buffer
+pub record Untouched (service : Service) (event : Event) (buffer : List ℕ) : Type 0 where
+  pub result : reportedIn service event buffer ≡ record { service = service; refusal = 9 }
+  pub unwritten : bufferOf service event buffer ≡ buffer
+
+abbrev pub ShortUntouched : Type 0
+ShortUntouched = (service : Service) (event : Event) (buffer : List ℕ) → length buffer < reportLength → Untouched service event buffer
+
+-- an event that 2 to 5 refuse leaves the service, reported or not
+abbrev pub RefusedReportLeaves : Type 0
+RefusedReportLeaves =
+    (service : Service) (event : Event) (buffer : List ℕ) (refusal : Refusal) → stepOf service event .answer ≡ Refused refusal →
+    reportedIn service event buffer .service ≡ service

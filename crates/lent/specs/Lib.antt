@@ -1,0 +1,9 @@
+pub mod Lent
+pub mod ImagePort
+pub mod ImageQueue
+pub mod ImageLine
+pub mod Image
+pub mod Exports
+pub mod LentLaws
+pub mod ImageLaws
+pub mod ExportLaws

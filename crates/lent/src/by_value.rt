@@ -1,0 +1,78 @@
+// What each lent call does, by value: the service that it leaves and what it returns.
+ghost use mathlib.Core.Path.{_≡_};
+ghost use Rattle.report.specs.Reported.{bufferOf};
+ghost use Rattle.lent.specs.Lent.{madeIn, steppedOf, eventIn, keyIn, callIn, pollIn, reportedIn};
+use crate::Reply;
+use crate::Stepped;
+use crate::Tried;
+use service::Event;
+use service::Outcome;
+use service::Service;
+use service::commands;
+use service::functions;
+use service::keyboard;
+
+// A refusal leaves the service as it was.
+pub fn make(service: Service, bits: u8) -> Tried
+    ensures { λ r. ⌜ r ≡ madeIn service bits ⌝ }
+{
+    let made = service::make(bits);
+    let refusal = made.refusal;
+    if refusal == 0 {
+        let fresh = made.service;
+        return Tried {
+            service: fresh,
+            refusal: 0,
+        };
+    }
+    Tried { service, refusal }
+}
+
+fn stepped(outcome: Outcome) -> Stepped
+    ensures { λ r. ⌜ r ≡ steppedOf outcome ⌝ }
+{
+    let service = outcome.service;
+    let answer = outcome.answer;
+    Stepped {
+        service,
+        reply: Reply {
+            answer,
+            sent: outcome.sent,
+        },
+    }
+}
+
+pub fn event(service: Service, event: Event) -> Stepped
+    ensures { λ r. ⌜ r ≡ eventIn service event ⌝ }
+{
+    stepped(service::step(service, event))
+}
+
+pub fn key(service: Service, byte: u8) -> Stepped
+    ensures { λ r. ⌜ r ≡ keyIn service byte ⌝ }
+{
+    stepped(keyboard::key(service, byte))
+}
+
+pub fn call(service: Service, function: u8, a: u8, b: u8) -> Stepped
+    ensures { λ r. ⌜ r ≡ callIn service function a b ⌝ }
+{
+    stepped(functions::call(service, function, a, b))
+}
+
+pub fn poll(service: Service) -> Stepped
+    ensures { λ r. ⌜ r ≡ pollIn service ⌝ }
+{
+    stepped(commands::poll(service))
+}
+
+pub fn report(service: Service, event: Event, buffer: &mut [u8]) -> Tried
+    ensures { λ r. ⌜ (r ≡ reportedIn service event (now (buffer .entry))) × (now (buffer .exit) ≡ bufferOf service event (now (buffer .entry))) ⌝ }
+{
+    let reported = report::report_event(service, event, buffer);
+    let after = reported.service;
+    Tried {
+        service: after,
+        refusal: reported.refusal,
+    }
+}

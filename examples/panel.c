@@ -1,0 +1,136 @@
+/*
+ * A panel in little: bytes from a keyboard go in, words come out, lamps are set, and events are reported.
+ *
+ *   rt staticlib lent
+ *   gcc -std=c99 -Wall -Wextra -Werror -pedantic -Iinclude examples/panel.c target/staticlib/liblent.a -o panel
+ *   ./panel | cmp - examples/panel.expected
+ */
+#include <stdio.h>
+#include <string.h>
+
+#include "xiquepazo.h"
+
+/* The keyboard at the other end of the line. It asks once for a byte again, then acknowledges. */
+struct keyboard {
+    int doubts;
+};
+
+static uint8_t reply_of(struct keyboard *keyboard, uint8_t byte)
+{
+    printf("sent %02X", byte);
+    if (keyboard->doubts > 0) {
+        keyboard->doubts--;
+        printf(", reply FE\n");
+        return 0xFE;
+    }
+    printf(", reply FA\n");
+    return 0xFA;
+}
+
+/* Sends what the service has to send, and feeds each reply back as a keyboard byte. */
+static void drain(struct xiquepazo_service *service, struct keyboard *keyboard)
+{
+    for (;;) {
+        struct xiquepazo_shown shown = xiquepazo_poll(service);
+        if (shown.ans != XIQUEPAZO_SEND)
+            break;
+        shown = xiquepazo_key(service, reply_of(keyboard, (uint8_t)(shown.word & 0xFF)));
+        if (shown.ans == XIQUEPAZO_GIVEN_UP)
+            printf("given up after %d bytes\n", shown.sent);
+    }
+    printf("byte 97 is %02X\n", xiquepazo_flags(service).byte97);
+}
+
+/* Feeds bytes as they come from the keyboard. */
+static void feed(struct xiquepazo_service *service, const uint8_t *bytes, size_t count)
+{
+    size_t i;
+    for (i = 0; i < count; i++) {
+        struct xiquepazo_shown shown = xiquepazo_key(service, bytes[i]);
+        if (shown.ans == XIQUEPAZO_DROPPED)
+            printf("dropped %04X\n", shown.word);
+        if (shown.ans == XIQUEPAZO_RESTART)
+            printf("restart asked\n");
+    }
+}
+
+/* Takes the words that wait, oldest first. */
+static void take_words(struct xiquepazo_service *service)
+{
+    struct xiquepazo_shown shown = xiquepazo_call(service, 0x00, 0, 0);
+    while (shown.ans == XIQUEPAZO_RETURNED) {
+        printf("word %04X\n", shown.word);
+        shown = xiquepazo_call(service, 0x00, 0, 0);
+    }
+}
+
+/* Runs an event and prints its report. */
+static void print_report(struct xiquepazo_service *service, struct xiquepazo_tagged event)
+{
+    uint8_t text[XIQUEPAZO_REPORT];
+    uint8_t refusal = xiquepazo_report(service, event, text, sizeof text);
+    fwrite(text, 1, sizeof text, stdout);
+    if (refusal != 0)
+        printf("refused by %d\n", refusal);
+}
+
+/* After a keyboard was plugged in: every key up, the queue empty, the line restarted. */
+static void resynchronise(struct xiquepazo_service *service)
+{
+    static const uint8_t all_up[] = {0xB9, 0xAA, 0xB6, 0x9D, 0xE0, 0x9D, 0xB8, 0xE0, 0xB8, 0xBA, 0xC5, 0xC6, 0xD2, 0xD4, 0x39, 0xB9};
+    feed(service, all_up, sizeof all_up);
+    xiquepazo_empty(service);
+    xiquepazo_restart(service);
+}
+
+/* Whether refused calls leave every byte that was lent. */
+static int refusals_leave_all(struct xiquepazo_service *service)
+{
+    struct xiquepazo_tagged unknown = {'X', 0, 0, 0};
+    struct xiquepazo_tagged poll = {'P', 0, 0, 0};
+    struct xiquepazo_service before = *service;
+    uint8_t text[XIQUEPAZO_REPORT - 1];
+    uint8_t text_before[sizeof text];
+    memset(text, 0x5A, sizeof text);
+    memcpy(text_before, text, sizeof text);
+    printf("make %d", xiquepazo_make(service, 16));
+    printf(", call %02X %02X %02X", xiquepazo_call(service, 0xFF, 0, 0).ans, xiquepazo_call(service, 0x03, 4, 0).ans, xiquepazo_call(service, 0x03, 0, 32).ans);
+    printf(", event %02X", xiquepazo_event(service, unknown).ans);
+    printf(", report %d %d\n", xiquepazo_report(service, unknown, text, sizeof text), xiquepazo_report(service, poll, text, sizeof text));
+    return memcmp(service, &before, sizeof before) == 0 && memcmp(text, text_before, sizeof text) == 0;
+}
+
+int main(void)
+{
+    static const uint8_t shifted_a[] = {0x2A, 0x1E, 0x9E, 0xAA};
+    static const uint8_t keypad_44[] = {0x38, 0x4B, 0xCB, 0x4B, 0xCB, 0xB8};
+    static const uint8_t caps_lock[] = {0x3A, 0xBA};
+    struct xiquepazo_tagged key_b = {'K', 0x30, 0, 0};
+    struct xiquepazo_tagged no_function = {'C', 0x99, 0, 0};
+    struct xiquepazo_service service;
+    struct xiquepazo_service zeros;
+    struct keyboard keyboard = {1};
+
+    if (xiquepazo_make(&service, 0) != 0)
+        return 1;
+    memset(&zeros, 0, sizeof zeros);
+    printf("a new service is zeros: %s\n", memcmp(&service, &zeros, sizeof zeros) == 0 ? "yes" : "no");
+
+    feed(&service, shifted_a, sizeof shifted_a);
+    feed(&service, keypad_44, sizeof keypad_44);
+    take_words(&service);
+
+    feed(&service, caps_lock, sizeof caps_lock);
+    drain(&service, &keyboard);
+    xiquepazo_call(&service, 0x03, 1, 2);
+    drain(&service, &keyboard);
+
+    print_report(&service, key_b);
+    print_report(&service, no_function);
+
+    printf("refused calls leave all: %s\n", refusals_leave_all(&service) ? "yes" : "no");
+
+    resynchronise(&service);
+    printf("byte 17 is %02X\n", xiquepazo_flags(&service).byte17);
+    return 0;
+}

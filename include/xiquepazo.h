@@ -1,0 +1,243 @@
+/*
+ * The aisle panel's AT keyboard service, from C (C99 or later) or C++.
+ *
+ * Link target/staticlib/liblent.a, which `rt staticlib lent` writes; it needs no other library. x86-64 Linux.
+ *
+ * The caller keeps the service, as a struct of numbers, and lends it to each call. Every call is proved against the definitions of
+ * document 01. It trusts none of the numbers: whatever they are, they mean some service. What it does trust is the pointers, which
+ * must be valid, aligned and not null, and must not overlap. One service is used by one thread at a time.
+ *
+ * Refusals, by who causes them. A refused call leaves the service as it was, byte for byte.
+ *   1  lock bits above 15                       the maker of the service
+ *   2  int 16h function not listed              the calling program
+ *   3  typematic delay above 3                  the calling program
+ *   4  typematic rate above 31, after 3         the calling program
+ *   5  function 05 on a full queue              the calling program
+ *   6  a tag that names no event                the calling program
+ *   9  report buffer under 44 bytes             the calling program
+ * 6 and 9 run no event and leave the buffer as it was. An event that 2 to 5 refuse has its report written.
+ */
+#ifndef XIQUEPAZO_H
+#define XIQUEPAZO_H
+
+#include <stddef.h>
+#include <stdint.h>
+
+#ifdef __cplusplus
+extern "C" {
+#endif
+
+/* How many words the queue has room for, and how many bytes a report has. */
+#define XIQUEPAZO_WORDS 15
+#define XIQUEPAZO_REPORT 44
+
+/* The numbers of answers. A refusal is XIQUEPAZO_REFUSED plus its number. */
+enum {
+    XIQUEPAZO_NOTHING = 0x00,      /* the byte had no word */
+    XIQUEPAZO_PUT = 0x01,          /* `word` was put to the queue */
+    XIQUEPAZO_DROPPED = 0x02,      /* `word` was dropped, since the queue was full */
+    XIQUEPAZO_BREAK = 0x03,        /* Ctrl-Break: the queue holds the word 0000 alone */
+    XIQUEPAZO_RESTART = 0x04,      /* Ctrl-Alt-Del: the panel is asked to restart */
+    XIQUEPAZO_OVERRUN = 0x05,      /* the keyboard lost bytes */
+    XIQUEPAZO_TAKEN = 0x06,        /* a reply was taken */
+    XIQUEPAZO_IGNORED = 0x07,      /* a reply or time-out that was not awaited */
+    XIQUEPAZO_RETURNED = 0x08,     /* `word` is the oldest of the queue */
+    XIQUEPAZO_NONE = 0x09,         /* the queue is empty */
+    XIQUEPAZO_STATUS = 0x0A,       /* `word` is a status */
+    XIQUEPAZO_DONE = 0x0B,         /* functions 03 and 05, E, R, and a time-out that was awaited */
+    XIQUEPAZO_SEND = 0x0C,         /* the low byte of `word` is to be sent to the keyboard */
+    XIQUEPAZO_QUIET = 0x0D,        /* there is nothing to send */
+    XIQUEPAZO_GIVEN_UP = 0x0E,     /* the third send of a byte failed, and its command was given up */
+    XIQUEPAZO_REFUSED = 0x80
+};
+
+/*
+ * The service. Make it by xiquepazo_make, or fill it with zeros, which is a service newly made with no lock on; then leave it to the
+ * calls. Flags are 0 or 1, and any other number is read as 1. 80 bytes, none of them padding.
+ */
+struct xiquepazo_word {
+    uint8_t scan;
+    uint8_t ascii;
+};
+
+/* `count` words from the place `head` on, round the array. `spare` is not read. */
+struct xiquepazo_queue {
+    size_t head;
+    size_t count;
+    struct xiquepazo_word words[XIQUEPAZO_WORDS];
+    uint16_t spare;
+};
+
+struct xiquepazo_sides {
+    uint8_t left;
+    uint8_t right;
+};
+
+struct xiquepazo_modifiers {
+    struct xiquepazo_sides shift;
+    struct xiquepazo_sides ctrl;
+    struct xiquepazo_sides alt;
+};
+
+struct xiquepazo_held {
+    uint8_t scroll;
+    uint8_t num;
+    uint8_t caps;
+    uint8_t insert;
+    uint8_t sysreq;
+};
+
+/* `prefix`: 0 none, 1 E0, 2 E1, 3 E1 1D, 4 E1 9D, any other number none. `sum`: the Alt sum. */
+struct xiquepazo_port {
+    uint8_t prefix;
+    struct xiquepazo_modifiers modifiers;
+    struct xiquepazo_held held;
+    uint8_t sum;
+};
+
+struct xiquepazo_locks {
+    uint8_t scroll;
+    uint8_t num;
+    uint8_t caps;
+    uint8_t insert;
+};
+
+struct xiquepazo_shared {
+    struct xiquepazo_locks locks;
+    uint8_t paused;
+};
+
+/* `phase`: 0 idle, 1 a reply is awaited, 2 a poll is due, any other number idle. `kind`: 0 LED, else rate. */
+struct xiquepazo_command {
+    uint8_t phase;
+    uint8_t kind;
+    uint8_t value;
+    uint8_t operand;
+    uint8_t sends;
+    uint8_t sent;
+};
+
+/* A value, or none where `known` is 0. */
+struct xiquepazo_setting {
+    uint8_t known;
+    uint8_t value;
+};
+
+struct xiquepazo_marks {
+    uint8_t done;
+    uint8_t acknowledged;
+    uint8_t resend;
+    uint8_t abandoned;
+};
+
+struct xiquepazo_line {
+    struct xiquepazo_command command;
+    struct xiquepazo_setting handled;
+    struct xiquepazo_setting rate;
+    struct xiquepazo_marks marks;
+};
+
+struct xiquepazo_service {
+    struct xiquepazo_queue queue;
+    struct xiquepazo_port port;
+    struct xiquepazo_shared shared;
+    struct xiquepazo_line line;
+};
+
+/* The struct is laid out as the library has it, or this line does not compile. */
+typedef char xiquepazo_service_is_80_bytes[sizeof(struct xiquepazo_service) == 80 ? 1 : -1];
+
+/*
+ * What is seen of an event: its answer, its word (put, dropped, returned, a status, or to be sent, else 0), the count of bytes sent by
+ * the command that runs or ended with this event, and the flag bytes after it.
+ */
+struct xiquepazo_shown {
+    uint16_t word;
+    uint8_t ans;
+    uint8_t sent;
+    uint8_t byte17;
+    uint8_t byte18;
+    uint8_t byte96;
+    uint8_t byte97;
+};
+
+/*
+ * An event as a pack has it, by its capital: 'K' with the keyboard byte in `a`, 'C' with the function in `a` and its bytes in `b` and `c`,
+ * 'P' poll, 'T' time-out, 'E' empty the queue, 'R' restart the line. Bytes that an event does not use are not read.
+ */
+struct xiquepazo_tagged {
+    uint8_t tag;
+    uint8_t a;
+    uint8_t b;
+    uint8_t c;
+};
+
+/* Flag bytes 17, 18, 96 and 97 of the BIOS data area. */
+struct xiquepazo_flag_bytes {
+    uint8_t byte17;
+    uint8_t byte18;
+    uint8_t byte96;
+    uint8_t byte97;
+};
+
+/* Makes a new service with the lock bits (bit 0 Scroll, 1 Num, 2 Caps, 3 Insert). Returns 0, or refusal 1 for bits above 15. */
+uint8_t xiquepazo_make(struct xiquepazo_service *service, uint8_t bits);
+
+/* A byte from the keyboard: scan codes, and the replies FA and FE to what was sent. Never refused. */
+struct xiquepazo_shown xiquepazo_key(struct xiquepazo_service *service, uint8_t byte);
+
+/*
+ * Int 16h. 00, 10: the oldest word, removed. 01, 11: the oldest word, left. 02: status, byte 17. 12: extended status. 03: delay a, rate b.
+ * 05: put word a b. Refusals 2 to 5, as ans 82 to 85.
+ */
+struct xiquepazo_shown xiquepazo_call(struct xiquepazo_service *service, uint8_t function, uint8_t a, uint8_t b);
+
+/* Asks for a byte to send: with XIQUEPAZO_SEND it is the low byte of `word`, and its reply is awaited. Never refused. */
+struct xiquepazo_shown xiquepazo_poll(struct xiquepazo_service *service);
+
+/* Any event. Refusals 2 to 5, and 6 for an unknown tag, as ans 82 to 86. */
+struct xiquepazo_shown xiquepazo_event(struct xiquepazo_service *service, struct xiquepazo_tagged event);
+
+/*
+ * Any event, and its report as the first 44 of the `length` bytes at `buffer`; the bytes after them are kept. Returns 0, or 2 to 5 where
+ * the event is a call that is refused, 6 for an unknown tag, 9 for fewer than 44 bytes. 6 comes before 9, and 9 before 2 to 5.
+ */
+uint8_t xiquepazo_report(struct xiquepazo_service *service, struct xiquepazo_tagged event, uint8_t *buffer, size_t length);
+
+/* The flag bytes as they stand. */
+struct xiquepazo_flag_bytes xiquepazo_flags(const struct xiquepazo_service *service);
+
+/* The events that have only a tag. */
+static inline struct xiquepazo_shown xiquepazo_tag(struct xiquepazo_service *service, char tag)
+{
+    struct xiquepazo_tagged event;
+    event.tag = (uint8_t)tag;
+    event.a = 0;
+    event.b = 0;
+    event.c = 0;
+    return xiquepazo_event(service, event);
+}
+
+/* No reply came in time. */
+static inline struct xiquepazo_shown xiquepazo_time_out(struct xiquepazo_service *service)
+{
+    return xiquepazo_tag(service, 'T');
+}
+
+/* Empties the queue. */
+static inline struct xiquepazo_shown xiquepazo_empty(struct xiquepazo_service *service)
+{
+    return xiquepazo_tag(service, 'E');
+}
+
+/* Restarts the line: idle, byte 97 zero, no rate waits, no LED value handled. */
+static inline struct xiquepazo_shown xiquepazo_restart(struct xiquepazo_service *service)
+{
+    return xiquepazo_tag(service, 'R');
+}
+
+#ifdef __cplusplus
+}
+#endif
+
+#endif

@@ -1,0 +1,10 @@
+//! The proved service as a Rust program meets it: through the C interface of its static library.
+//!
+//! The proof covers the library's functions. It does not cover the compiler's back end, the
+//! passing of structs and slices between C and Rattle, or whether the definitions say what the
+//! description says; the tests of this package try all three. They compare every event with the
+//! independent reference, and look at every byte that was lent.
+
+mod image;
+
+pub use image::{Image, Tagged, IMAGE_LENGTH};

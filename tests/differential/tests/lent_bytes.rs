@@ -1,0 +1,244 @@
+//! Memory that is lent: a refused call leaves every byte of it as it was, image and buffer, but for
+//! the report of a call refused by 2 to 5, which is told like any other event. A call that is run
+//! changes the image and the first 44 bytes of the buffer, and nothing before, between or behind.
+
+use differential::{Image, Tagged};
+use reference::generator::{random_events, Random, FLAVOURS};
+use reference::{report, Event, Service, REPORT_LENGTH};
+
+/// Services in use that each refusal is tried on.
+const SERVICES: usize = 256;
+/// Bytes on either side of what is lent.
+const MARGIN: usize = 64;
+const TAGS: [u8; 6] = *b"KCPTER";
+/// The functions of int 16h that are not refused by 2.
+const FUNCTIONS: [u8; 8] = [0x00, 0x10, 0x01, 0x11, 0x02, 0x12, 0x03, 0x05];
+
+/// One service, as the library and as the reference has it.
+#[derive(Clone)]
+struct Pair {
+    image: Image,
+    service: Service,
+}
+
+impl Pair {
+    fn event(&mut self, event: &Event) {
+        assert_eq!(self.image.event(event), self.service.event(event));
+    }
+}
+
+/// Services after random lists of every flavour, from every setting of the locks.
+fn services_in_use() -> Vec<Pair> {
+    let mut random = Random::new(9);
+    let in_use = |number: usize| {
+        let locks = (number / FLAVOURS.len() % 16) as u8;
+        let mut pair = Pair {
+            image: Image::new(locks).unwrap(),
+            service: Service::new(locks).unwrap(),
+        };
+        let (flavour, length) = (FLAVOURS[number % FLAVOURS.len()], random.below(150));
+        for event in random_events(&mut random, flavour, length) {
+            pair.event(&event);
+        }
+        pair
+    };
+    (0..SERVICES).map(in_use).collect()
+}
+
+/// Bytes of which no two neighbours are alike, so that a byte moved is seen too.
+fn memory(length: usize) -> Vec<u8> {
+    (0..length).map(|place| (place * 7 + 3) as u8).collect()
+}
+
+/// Lends so many bytes with a margin on either side. Gives the refusal and all bytes after the call.
+fn report_amid(image: &mut Image, event: Tagged, length: usize) -> (u8, Vec<u8>) {
+    let mut memory = memory(MARGIN + length + MARGIN);
+    let refusal = image.report(event, &mut memory[MARGIN..MARGIN + length]);
+    (refusal, memory)
+}
+
+fn assert_unreported(pair: &Pair, event: Tagged, length: usize, refusal: u8) {
+    let mut image = pair.image.clone();
+    let left = report_amid(&mut image, event, length);
+    assert_eq!(left, (refusal, memory(MARGIN + length + MARGIN)));
+    assert_eq!(image, pair.image, "{event:?}");
+}
+
+fn assert_reported(pair: &Pair, event: &Event, length: usize, refusal: u8) {
+    let Pair { image, service } = &mut pair.clone();
+    let mut expected = memory(MARGIN + length + MARGIN);
+    let text = report(event, &service.event(event));
+    expected[MARGIN..MARGIN + REPORT_LENGTH].copy_from_slice(&text);
+    let left = report_amid(image, event.into(), length);
+    assert_eq!(left, (refusal, expected), "{event:?}");
+    assert!(refusal == 0 || *image == pair.image, "{event:?}");
+}
+
+/// A call refused by 2 to 5, by each function that runs it.
+fn assert_call_refused(pair: &Pair, (function, a, b): (u8, u8, u8), refusal: u8) {
+    let event = Event::Call(function, a, b);
+    let expected = pair.service.clone().event(&event);
+    assert_eq!((expected.ans, expected.word), (0x80 + refusal, 0));
+    let mut image = pair.image.clone();
+    assert_eq!(image.event(&event), expected);
+    assert_eq!(image.call(function, a, b), expected);
+    assert_eq!(image, pair.image);
+    assert_reported(pair, &event, REPORT_LENGTH, refusal);
+    assert_reported(pair, &event, REPORT_LENGTH + 13, refusal);
+}
+
+#[test]
+fn refusal_1_keeps_every_byte() {
+    for pair in services_in_use() {
+        let mut image = pair.image.clone();
+        for locks in 16..=255 {
+            assert_eq!(image.make(locks), 1);
+            assert_eq!(image, pair.image);
+        }
+    }
+}
+
+#[test]
+fn refusal_2_keeps_every_byte() {
+    for pair in services_in_use() {
+        for function in (0..=255).filter(|function| !FUNCTIONS.contains(function)) {
+            assert_call_refused(&pair, (function, function ^ 0x5A, 0xFF), 2);
+        }
+    }
+}
+
+#[test]
+fn refusal_3_keeps_every_byte() {
+    for pair in services_in_use() {
+        for delay in 4..=255 {
+            assert_call_refused(&pair, (0x03, delay, delay ^ 0xFF), 3);
+        }
+    }
+}
+
+#[test]
+fn refusal_4_keeps_every_byte() {
+    for pair in services_in_use() {
+        for rate in 32..=255 {
+            assert_call_refused(&pair, (0x03, rate % 4, rate), 4);
+        }
+    }
+}
+
+#[test]
+fn refusal_5_keeps_every_byte() {
+    for mut pair in services_in_use() {
+        while pair.service.clone().event(&Event::Call(0x05, 0, 0)).ans < 0x80 {
+            pair.event(&Event::Call(0x05, 0x1E, 0x61));
+        }
+        for low in 0..=255 {
+            assert_call_refused(&pair, (0x05, low ^ 0x33, low), 5);
+        }
+    }
+}
+
+#[test]
+fn refusal_6_keeps_every_byte() {
+    for pair in services_in_use() {
+        let standing = pair.image.clone().call(0x02, 0, 0);
+        for tag in (0..=255).filter(|tag| !TAGS.contains(tag)) {
+            let operands = [tag, 0x00, 0xFF];
+            let event = Tagged { tag, operands };
+            let mut image = pair.image.clone();
+            let shown = image.event(event);
+            assert_eq!((shown.ans, shown.word), (0x86, 0));
+            assert_eq!((shown.flags, shown.sent), (standing.flags, standing.sent));
+            assert_eq!(image, pair.image);
+            // It comes before 9.
+            for length in [0, REPORT_LENGTH - 1, REPORT_LENGTH, 100] {
+                assert_unreported(&pair, event, length, 6);
+            }
+        }
+    }
+}
+
+#[test]
+fn refusal_9_keeps_every_byte() {
+    let mut random = Random::new(44);
+    for pair in services_in_use() {
+        for length in 0..REPORT_LENGTH {
+            // It comes before 2 to 5.
+            for refused in [(0x04, 0, 0), (0x03, 4, 0), (0x03, 0, 32), (0x05, 0, 0)] {
+                let (function, a, b) = refused;
+                let event = Event::Call(function, a, b);
+                assert_unreported(&pair, Tagged::from(&event), length, 9);
+            }
+            for tag in TAGS {
+                let operands = [random.byte(), random.byte(), random.byte()];
+                assert_unreported(&pair, Tagged { tag, operands }, length, 9);
+            }
+        }
+    }
+}
+
+#[test]
+fn long_buffer_keeps_its_tail() {
+    let mut random = Random::new(45);
+    for pair in services_in_use() {
+        for length in (REPORT_LENGTH..=2 * REPORT_LENGTH).chain([4096]) {
+            let flavour = random.pick(&FLAVOURS);
+            for event in random_events(&mut random, flavour, 4) {
+                let outcome = pair.service.clone().event(&event);
+                let refusal = outcome.ans.saturating_sub(0x80);
+                assert_reported(&pair, &event, length, refusal);
+            }
+        }
+    }
+}
+
+#[test]
+fn unused_operands_are_not_read() {
+    let mut random = Random::new(46);
+    for pair in services_in_use() {
+        let flavour = random.pick(&FLAVOURS);
+        for event in random_events(&mut random, flavour, 50) {
+            let plain = Tagged::from(&event);
+            let mut filled = plain;
+            let used = match event {
+                Event::Key(_) => 1,
+                Event::Call(..) => 3,
+                _ => 0,
+            };
+            filled.operands[used..].fill_with(|| random.byte());
+            let (mut one, mut other) = (pair.image.clone(), pair.image.clone());
+            assert_eq!(one.event(plain), other.event(filled));
+            assert_eq!(one, other);
+        }
+    }
+}
+
+/// An image with bytes on either side of it.
+#[repr(C)]
+struct Amid {
+    before: [u8; MARGIN],
+    image: Image,
+    after: [u8; MARGIN],
+}
+
+#[test]
+fn neighbours_of_the_image_are_kept() {
+    let margin: [u8; MARGIN] = memory(MARGIN).try_into().unwrap();
+    let mut random = Random::new(80);
+    for pair in services_in_use() {
+        let mut amid = Amid {
+            before: margin,
+            image: pair.image,
+            after: margin,
+        };
+        let flavour = random.pick(&FLAVOURS);
+        for event in random_events(&mut random, flavour, 200) {
+            amid.image.event(&event);
+            amid.image.report(&event, &mut [0; REPORT_LENGTH]);
+            amid.image.key(random.byte());
+            amid.image.call(random.byte(), 0, 0);
+            amid.image.poll();
+            amid.image.make(random.byte());
+        }
+        assert_eq!((amid.before, amid.after), (margin, margin));
+    }
+}
