@@ -25,6 +25,7 @@ use Rattle.port.specs.Flags.{bare, afterE0, tracked, modifiersAfter, fla
 use Rattle.port.specs.AltEntry.{altDigit, altEnded}
 use Rattle.port.specs.Makes.{wordPut, entryPut, typed, counted, entered, madeOf, entryFor}
 use Rattle.port.specs.KeyByte.{onEntry, codeRead, onReading, keyByteOf}
+use Rattle.port.proofs.Disjunction.{or-false}
 use Rattle.port.specs.Laws.{Settled, AltSumSettles}
 
 record Leaves (d : Decoded) : Type 0 where
@@ -70,10 +71,6 @@ made-leaves port shared code entry h =
 ended-leaves : (port : Port) (shared : Shared) → Leaves (altEnded port shared)
 unfolding altEnded
 ended-leaves port shared = record { port = zeroed (withSum port 0) refl }
-
-or-false : (a b : Bool) → (a || b) ≡ false → (a ≡ false) × (b ≡ false)
-or-false true b e = absurd (true≢false e)
-or-false false b e = (refl, e)
 
 -- a side that is up after a code that is no Alt break was up before it
 was-up : (was make prefixed broken : Bool) → broken ≡ false → (not (broken && prefixed) && (make || was)) ≡ false → was ≡ false

@@ -1,3 +1,4 @@
+pub mod Disjunction
 pub mod NothingSwallowed
 pub mod AltSumSettles
 pub mod LocksHold

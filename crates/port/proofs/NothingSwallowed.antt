@@ -14,11 +14,8 @@ use Rattle.port.specs.declared.Shared.{Shared}
 use Rattle.port.specs.State.{withPrefix}
 use Rattle.port.specs.Prefix.{at, pause, pauseBreak, continued, readOf}
 use Rattle.port.specs.KeyByte.{onReading, keyByteOf}
+use Rattle.port.proofs.Disjunction.{or-false}
 use Rattle.port.specs.Laws.{fits, NothingSwallowed}
-
-or-false : (a b : Bool) → (a || b) ≡ false → (a ≡ false) × (b ≡ false)
-or-false true b e = absurd (true≢false e)
-or-false false b e = (refl, e)
 
 -- such a byte is read as with no prefix open
 read-alike : (prefix : Prefix) (byte : ℕ) → fits prefix byte ≡ false → continued prefix byte ≡ continued Closed byte

@@ -16,15 +16,11 @@ use Rattle.pack.specs.Parsing.{parseFrom, parse}
 use Rattle.pack.specs.Laws.{PartFrom, Stops}
 use Rattle.pack.proofs.Events.{read-is-encoded}
 use Rattle.pack.proofs.Walk.{walk, too-long-is-refused}
-use Rattle.report.specs.declared.Report.{Report}
 use Rattle.report.specs.Text.{textOf}
 use Rattle.report.specs.Reported.{eventReport}
+use Rattle.report.proofs.TextLaws.{text-lengths}
 use Rattle.trace.specs.Trace.{closingOf, shownOf, traceOf, tracedOf}
 use Rattle.trace.proofs.Writing.{placed, placed-length, placed-take, placed-drop}
-
-text-length : (report : Report) → length (textOf report) ≡ 44
-unfolding textOf
-text-length report = refl
 
 closing-length : (end refusal : ℕ) → length (closingOf end refusal) ≡ 19
 unfolding closingOf
@@ -81,7 +77,7 @@ module _ (pack text₀ text : List ℕ) (service : Service) (offset at : ℕ) (p
       → Yet pack text₀ text′ (next service event) (offset + bytes) (at + 44) (drop bytes part)
   reported event bytes text′ found e =
       let report = textOf (eventReport service event) in
-      let l = text-length (eventReport service event) in
+      let l = text-lengths (eventReport service event) .text in
       let first = read-is-encoded part event bytes found in
       let some : 0 < bytes = first .some in
       let within : bytes ≤ length part = first .within in
