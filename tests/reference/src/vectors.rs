@@ -2,12 +2,12 @@
 
 use crate::service::Outcome;
 
-/// A pack from locks 0 and what its last event must show.
+/// A pack from locks 0 and what its last event must show; nothing if no event can be read.
 pub struct Vector {
     pub name: &'static str,
     /// The pack in hexadecimal.
     pub pack: &'static str,
-    pub last: Outcome,
+    pub last: Option<Outcome>,
 }
 
 impl Vector {
@@ -16,12 +16,17 @@ impl Vector {
         pack: &'static str,
         (ans, word, flags, sent): (u8, u16, u32, u8),
     ) -> Vector {
-        let last = Outcome {
+        let last = Some(Outcome {
             ans,
             word,
             flags: flags.to_be_bytes(),
             sent,
-        };
+        });
+        Vector { name, pack, last }
+    }
+
+    const fn without_event(name: &'static str, pack: &'static str) -> Vector {
+        let last = None;
         Vector { name, pack, last }
     }
 
@@ -43,7 +48,7 @@ pub fn to_hex(bytes: &[u8]) -> String {
 
 /// The decided readings that a pack can tell from their rivals, named as in `docs/DECISIONS.md`.
 /// The outcomes of the x ones were taken from this reference and then followed by hand.
-pub const READINGS: [Vector; 41] = [
+pub const READINGS: [Vector; 42] = [
     Vector::new("n01", "4B454BE14B1D4BC5", (0x00, 0x0000, 0x20000000, 0)),
     Vector::new(
         "n02",
@@ -125,6 +130,7 @@ pub const READINGS: [Vector; 41] = [
         (0x0D, 0x0000, 0x000000A0, 0),
     ),
     Vector::new("x07", "43030102", (0x0B, 0x0000, 0x00000000, 0)),
+    Vector::without_event("x10", "430000"),
 ];
 
 /// The refusals of the calling program, each as close to an accepted call as can be.

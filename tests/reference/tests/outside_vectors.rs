@@ -20,7 +20,7 @@ fn outcomes(pack: &[u8]) -> Vec<Outcome> {
 fn check_last(vectors: &[Vector]) {
     for vector in vectors {
         let outcomes = outcomes(&vector.bytes());
-        assert_eq!(outcomes.last(), Some(&vector.last), "{}", vector.name);
+        assert_eq!(outcomes.last(), vector.last.as_ref(), "{}", vector.name);
     }
 }
 
@@ -87,6 +87,12 @@ fn cut_pack_reports_what_came_before() {
     let text = trace(&from_hex("4B1E4B"));
     assert!(text.starts_with(b"ev=K\nans=01\nword=1E61\n"));
     assert!(text.ends_with(b"end=0002\nrefused=7\n"));
+}
+
+#[test]
+fn call_has_its_length_from_its_tag_alone() {
+    let text = trace(&from_hex("430000"));
+    assert_eq!(text, b"end=0000\nrefused=7\n");
 }
 
 #[test]
