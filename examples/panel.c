@@ -1,8 +1,8 @@
 /*
  * A panel in little: bytes from a keyboard go in, words come out, lamps are set, and events are reported.
  *
- *   rt staticlib lent
- *   gcc -std=c99 -Wall -Wextra -Werror -pedantic -Iinclude examples/panel.c target/staticlib/liblent.a -o panel
+ *   rt staticlib xiquepazo
+ *   gcc -std=c99 -Wall -Wextra -Werror -pedantic -Iinclude examples/panel.c target/staticlib/libxiquepazo.a -o panel
  *   ./panel | cmp - examples/panel.expected
  */
 #include <stdio.h>

@@ -1,7 +1,7 @@
 /*
  * The aisle panel's AT keyboard service, from C (C99 or later) or C++.
  *
- * Link target/staticlib/liblent.a, which `rt staticlib lent` writes; it needs no other library. x86-64 Linux.
+ * Link target/staticlib/libxiquepazo.a, which `rt staticlib xiquepazo` writes; it needs no other library. x86-64 Linux.
  *
  * The caller keeps the service, as a struct of numbers, and lends it to each call. Every call is proved against the definitions of
  * document 01. It trusts none of the numbers: whatever they are, they mean some service. What it does trust is the pointers, which

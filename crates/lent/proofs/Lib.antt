@@ -4,10 +4,5 @@ pub mod LentWithOne
 pub mod LentWithThree
 pub mod LentWithBuffer
 pub mod Lending
-pub mod Looked
 pub mod Types
-pub mod ImageTypes
-pub mod Mapped
 pub mod LentLaws
-pub mod ImageLaws
-pub mod ExportLaws

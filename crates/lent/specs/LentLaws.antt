@@ -4,13 +4,13 @@ use Prim.Native.Nat.{ℕ, _<_, _≤_}
 use mathlib.Core.Path.{_≡_}
 use mathlib.Core.List.{List}
 use lib.ListN.{length}
-use Rattle.service.specs.declared.Service.{Service}
-use Rattle.service.specs.declared.Event.{Event}
-use Rattle.service.specs.declared.Event.the-variants.{Key, Call, Poll}
-use Rattle.service.specs.declared.Refusal.{Refusal}
-use Rattle.service.specs.declared.Answer.the-variants.{Refused}
-use Rattle.service.specs.State.{newService}
-use Rattle.service.specs.Step.{stepOf}
+use Rattle.events.specs.declared.Service.{Service}
+use Rattle.events.specs.declared.Event.{Event}
+use Rattle.events.specs.declared.Event.the-variants.{Key, Call, Poll}
+use Rattle.events.specs.declared.Refusal.{Refusal}
+use Rattle.events.specs.declared.Answer.the-variants.{Refused}
+use Rattle.events.specs.State.{newService}
+use Rattle.events.specs.Step.{stepOf}
 use Rattle.report.specs.Reported.{reportLength, bufferOf}
 use Rattle.lent.specs.Lent.{madeIn, eventIn, keyIn, callIn, pollIn, reportedIn}
 

@@ -5,12 +5,9 @@ ghost use Rattle.lent.specs.Lent.{madeIn, steppedOf, eventIn, keyIn, cal
 use crate::Reply;
 use crate::Stepped;
 use crate::Tried;
-use service::Event;
-use service::Outcome;
-use service::Service;
-use service::commands;
-use service::functions;
-use service::keyboard;
+use events::Event;
+use events::Outcome;
+use events::Service;
 
 // A refusal leaves the service as it was.
 pub fn make(service: Service, bits: u8) -> Tried

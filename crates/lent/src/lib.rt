@@ -2,17 +2,11 @@
 ghost use mathlib.Core.Path.{_≡_};
 ghost use Rattle.report.specs.Reported.{bufferOf};
 ghost use Rattle.lent.specs.Lent.{madeIn, eventIn, keyIn, callIn, pollIn, reportedIn};
-use service::Answer;
-use service::Event;
-use service::Service;
+use events::Answer;
+use events::Event;
+use events::Service;
 
-pub mod by_image;
 pub mod by_value;
-pub mod exports;
-pub mod image;
-mod image_line;
-mod image_port;
-mod image_queue;
 
 // What an event answers. `sent` counts the bytes of the command that runs or ended.
 pub struct Reply {

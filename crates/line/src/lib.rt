@@ -43,18 +43,18 @@ pub enum Setting {
 
 // What byte 97 shows of the past.
 pub struct Marks {
-    pub done: u8,
     pub acknowledged: bool,
-    pub resend: bool,
     pub abandoned: bool,
+    pub done: u8,
+    pub resend: bool,
 }
 
 pub struct Line {
-    pub phase: Phase,
-    // the last LED value that was done or given up
-    pub handled: Setting,
     // the rate that waits for its command
     pub rate: Setting,
+    // the last LED value that was done or given up
+    pub handled: Setting,
+    pub phase: Phase,
     pub marks: Marks,
 }
 

@@ -10,7 +10,7 @@ use types.Run.{OneOf, miss}
 use lib.ListN.{length, getD, take, drop, length-drop}
 use lib.Seq.{take-all}
 use Rattle.bits.specs.Choice.{if_then_else_}
-use Rattle.service.specs.declared.Event.the-variants.{Key, Call}
+use Rattle.events.specs.declared.Event.the-variants.{Key, Call}
 use Rattle.pack.specs.declared.Read.{Read}
 use Rattle.pack.specs.declared.Read.the-variants as read
 use Rattle.pack.specs.Reading.{limit, keyOf, callOf, taggedOf, firstOf, readOf, restOf}

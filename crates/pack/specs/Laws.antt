@@ -4,7 +4,7 @@ use Prim.Native.Nat.{ℕ, _+_, _≤_, _<_}
 use mathlib.Core.Path.{_≡_}
 use mathlib.Core.List.{List, _++_}
 use lib.ListN.{length, take, drop}
-use Rattle.service.specs.declared.Event.{Event}
+use Rattle.events.specs.declared.Event.{Event}
 use Rattle.pack.specs.declared.Read.{Read}
 use Rattle.pack.specs.declared.Read.the-variants as read
 use Rattle.pack.specs.Reading.{limit, firstOf, readOf, restOf, refusalOf}

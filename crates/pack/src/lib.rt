@@ -1,7 +1,7 @@
 // Packs: one event is read from a part of a pack, and the part after it is handed on.
 ghost use mathlib.Core.Path.{_≡_};
 ghost use Rattle.pack.specs.Reading.{keyOf, callOf, taggedOf, firstOf, readOf, restOf, refusalOf};
-use service::Event;
+use events::Event;
 
 // The most bytes that a pack may have.
 pub const LIMIT: usize = 32768;

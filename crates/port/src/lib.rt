@@ -41,10 +41,10 @@ pub struct Held {
 
 // What belongs to one port. `sum` is the Alt sum.
 pub struct Port {
-    pub prefix: Prefix,
-    pub modifiers: Modifiers,
-    pub held: Held,
     pub sum: u8,
+    pub held: Held,
+    pub modifiers: Modifiers,
+    pub prefix: Prefix,
 }
 
 pub struct Locks {

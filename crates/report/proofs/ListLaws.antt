@@ -3,11 +3,11 @@
 use mathlib.Core.Path.{_≡_, refl, ap}
 use mathlib.Core.List.{[], _∷_}
 use native.Mathlib.Omega.{arith}
-use Rattle.service.specs.State.{newService}
-use Rattle.service.specs.Step.{stepOf}
-use Rattle.service.specs.Run.{Shown, shownOf, next, run, after}
-use Rattle.service.proofs.Resynchronised.{demand-3}
-use Rattle.service.proofs.SentCounts.{sent-at-most-six}
+use Rattle.events.specs.State.{newService}
+use Rattle.events.specs.Step.{stepOf}
+use Rattle.events.specs.Run.{Shown, shownOf, next, run, after}
+use Rattle.events.proofs.Resynchronised.{demand-3}
+use Rattle.events.proofs.SentCounts.{sent-at-most-six}
 use Rattle.report.specs.Report.{tagOf, reportFrom, reportOf}
 use Rattle.report.specs.Text.{textOf}
 use Rattle.report.specs.ListLaws.{RunPrints, Demand3Printed, SentOnOneDigit}

@@ -6,10 +6,10 @@ use mathlib.Core.Bool.{true, false}
 use native.Mathlib.Nat.{div-add-mod'}
 use native.Mathlib.Omega.{arith}
 use Rattle.bits.specs.Choice.{if_then_else_}
-use Rattle.service.specs.declared.Event.{Event}
-use Rattle.service.specs.declared.Event.the-variants.{Key, Call, Poll, TimeOut, Empty, Restart}
+use Rattle.events.specs.declared.Event.{Event}
+use Rattle.events.specs.declared.Event.the-variants.{Key, Call, Poll, TimeOut, Empty, Restart}
 use Rattle.report.specs.Report.{tagOf, reportOf}
-use Rattle.report.specs.Digits.{digitOf}
+use Rattle.digits.specs.Digits.{digitOf}
 use Rattle.report.specs.Text.{textOf}
 use Rattle.report.specs.TextLaws.{TextLengths, isPrintable, isLineFeed, TextReadable, valueOf, readOf, ReadBack, TextDetermines}
 use Rattle.report.proofs.DigitFacts.{digit-printable, digit-no-line-feed, digit-value}

@@ -4,14 +4,14 @@ use Prim.Native.Nat.{ℕ, _+_, _<_, _≤_}
 use mathlib.Core.Path.{_≡_}
 use mathlib.Core.List.{List}
 use lib.ListN.{length, take, drop}
-use Rattle.service.specs.declared.Service.{Service}
-use Rattle.service.specs.declared.Event.{Event}
-use Rattle.service.specs.declared.Refusal.{Refusal}
-use Rattle.service.specs.declared.Answer.the-variants.{Refused}
-use Rattle.service.specs.Answers.{refusalNumber}
-use Rattle.service.specs.Flags.{byte17Of, byte18Of, byte96Of, byte97Of}
-use Rattle.service.specs.Step.{stepOf}
-use Rattle.service.specs.Run.{next}
+use Rattle.events.specs.declared.Service.{Service}
+use Rattle.events.specs.declared.Event.{Event}
+use Rattle.events.specs.declared.Refusal.{Refusal}
+use Rattle.events.specs.declared.Answer.the-variants.{Refused}
+use Rattle.events.specs.Answers.{refusalNumber}
+use Rattle.events.specs.Flags.{byte17Of, byte18Of, byte96Of, byte97Of}
+use Rattle.events.specs.Step.{stepOf}
+use Rattle.events.specs.Run.{next}
 use Rattle.report.specs.Text.{flagsLine, textOf}
 use Rattle.report.specs.Reported.{reportLength, eventReport, reportedOf, bufferOf}
 

@@ -3,12 +3,12 @@
 use Prim.Native.Nat.{ℕ, _≤_}
 use mathlib.Core.Path.{_≡_}
 use mathlib.Core.List.{List, _++_}
-use Rattle.service.specs.declared.Service.{Service}
-use Rattle.service.specs.declared.Event.{Event}
-use Rattle.service.specs.State.{newService}
-use Rattle.service.specs.Step.{stepOf}
-use Rattle.service.specs.Run.{run, after}
-use Rattle.service.specs.Demand3.{resynchronisation, standingLocks}
+use Rattle.events.specs.declared.Service.{Service}
+use Rattle.events.specs.declared.Event.{Event}
+use Rattle.events.specs.State.{newService}
+use Rattle.events.specs.Step.{stepOf}
+use Rattle.events.specs.Run.{run, after}
+use Rattle.events.specs.Demand3.{resynchronisation, standingLocks}
 use Rattle.report.specs.Report.{reportOf}
 use Rattle.report.specs.Text.{textOf}
 use Rattle.report.specs.Reported.{textsOf}

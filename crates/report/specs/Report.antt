@@ -1,10 +1,10 @@
 -- What the report of an event shows.
 -- Assumes nothing.
 use Prim.Native.Nat.{ℕ}
-use Rattle.service.specs.declared.Event.{Event}
-use Rattle.service.specs.declared.Event.the-variants.{Key, Call, Poll, TimeOut, Empty, Restart}
-use Rattle.service.specs.declared.Outcome.{Outcome}
-use Rattle.service.specs.Run.{Shown, shownOf}
+use Rattle.events.specs.declared.Event.{Event}
+use Rattle.events.specs.declared.Event.the-variants.{Key, Call, Poll, TimeOut, Empty, Restart}
+use Rattle.events.specs.declared.Outcome.{Outcome}
+use Rattle.events.specs.Run.{Shown, shownOf}
 use Rattle.report.specs.declared.Report.{Report}
 
 -- the capital that stands for the event in a pack: K, C, P, T, E, R

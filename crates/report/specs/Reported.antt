@@ -6,10 +6,10 @@ use mathlib.Core.List.{List, [], _∷_, _++_}
 use lib.Dec.{ltb}
 use lib.ListN.{length, drop}
 use Rattle.bits.specs.Choice.{if_then_else_}
-use Rattle.service.specs.declared.Service.{Service}
-use Rattle.service.specs.declared.Event.{Event}
-use Rattle.service.specs.Step.{stepOf}
-use Rattle.service.specs.Run.{next}
+use Rattle.events.specs.declared.Service.{Service}
+use Rattle.events.specs.declared.Event.{Event}
+use Rattle.events.specs.Step.{stepOf}
+use Rattle.events.specs.Run.{next}
 use Rattle.report.specs.declared.Report.{Report}
 use Rattle.report.specs.declared.Reported.{Reported}
 use Rattle.report.specs.Report.{reportOf}

@@ -7,8 +7,8 @@ use mathlib.Core.List.{List, [], _∷_}
 use lib.Dec.{eqb, ltb}
 use lib.ListN.{length, getD}
 use Rattle.bits.specs.Choice.{if_then_else_}
-use Rattle.service.specs.declared.Event.{Event}
-use Rattle.service.specs.declared.Outcome.{Outcome}
+use Rattle.events.specs.declared.Event.{Event}
+use Rattle.events.specs.declared.Outcome.{Outcome}
 use Rattle.report.specs.declared.Report.{Report}
 use Rattle.report.specs.Report.{reportOf}
 use Rattle.report.specs.Text.{evLine, ansLine, wordLine, flagsLine, sentLine, textOf}

@@ -3,13 +3,11 @@ ghost use mathlib.Core.Path.{_≡_};
 ghost use Rattle.report.specs.Report.{tagOf, reportOf};
 ghost use Rattle.report.specs.Text.{textOf};
 ghost use Rattle.report.specs.Reported.{refusalIn, reportedOf, bufferOf};
-use service::Event;
-use service::Outcome;
-use service::Service;
-use service::answers;
-use service::flags;
-
-pub mod digits;
+use events::Event;
+use events::Outcome;
+use events::Service;
+use events::answers;
+use events::flags;
 
 // The length of every report.
 pub const LENGTH: usize = 44;

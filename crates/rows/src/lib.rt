@@ -130,7 +130,7 @@ const EXTENDED_ROWS: [[u16; 4]; 14] = [
 ];
 
 // The place of a code's row in ROWS, 92 for none: eight codes to a line, from 00 on.
-const PLACES: [[usize; 8]; 12] = [
+const PLACES: [[u8; 8]; 12] = [
     [92, 0, 1, 2, 3, 4, 5, 6],
     [7, 8, 9, 10, 11, 12, 13, 14],
     [15, 16, 17, 18, 19, 20, 21, 22],
@@ -146,7 +146,7 @@ const PLACES: [[usize; 8]; 12] = [
 ];
 
 // The same for codes after E0: 78 more than the place in EXTENDED_ROWS.
-const EXTENDED_PLACES: [[usize; 8]; 12] = [
+const EXTENDED_PLACES: [[u8; 8]; 12] = [
     [92, 92, 92, 92, 92, 92, 92, 92],
     [92, 92, 92, 92, 92, 92, 92, 92],
     [92, 92, 92, 92, 92, 92, 92, 92],
@@ -225,7 +225,7 @@ fn entry_of(number: u16) -> Entry
     Entry::Has(word::from_number(number))
 }
 
-fn place(extended: bool, code: u8) -> usize
+fn place(extended: bool, code: u8) -> u8
     ensures { λ r. ⌜ r ≡ placeOf extended code ⌝ }
 {
     let at = code as usize;
@@ -238,15 +238,16 @@ fn place(extended: bool, code: u8) -> usize
     PLACES[at / 8][at % 8]
 }
 
-fn cell(place: usize, column: Column) -> Entry
+fn cell(place: u8, column: Column) -> Entry
     ensures { λ r. ⌜ r ≡ cellOf place column ⌝ }
 {
+    let row = place as usize;
     let at = index(column);
-    if place < 78 {
-        return entry_of(ROWS[place][at]);
+    if row < 78 {
+        return entry_of(ROWS[row][at]);
     }
-    if place < 92 {
-        return entry_of(EXTENDED_ROWS[place - 78][at]);
+    if row < 92 {
+        return entry_of(EXTENDED_ROWS[row - 78][at]);
     }
     Entry::NoRow
 }

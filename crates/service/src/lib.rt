@@ -1,80 +1,14 @@
-// The service: one event by value, its answer and the flag bytes. Every value of these types has a meaning, so no call asks anything.
+// The service: newly made, and after one event of any kind. Every value of the types has a meaning, so no call asks anything.
 ghost use mathlib.Core.Path.{_≡_};
-ghost use Rattle.service.specs.State.{locksOf, newService, makeOf, withQueue, withLine};
-ghost use Rattle.service.specs.Outcomes.{answeredOf};
-ghost use Rattle.service.specs.Step.{emptyOf, stepOf};
-use line::Line;
+ghost use Rattle.events.specs.State.{locksOf, newService, makeOf};
+ghost use Rattle.events.specs.Step.{emptyOf, stepOf};
+use events::Answer;
+use events::Event;
+use events::Made;
+use events::Outcome;
+use events::Service;
 use port::Locks;
-use port::Port;
 use port::Shared;
-use queue::Queue;
-use word::Word;
-
-pub mod answers;
-pub mod commands;
-pub mod flags;
-pub mod functions;
-pub mod keyboard;
-
-// The fields stand in the order in which no gap lies between them: the queue alone is aligned to eight bytes.
-pub struct Service {
-    pub port: Port,
-    pub line: Line,
-    pub shared: Shared,
-    pub queue: Queue,
-}
-
-// The six events: a keyboard byte, an int 16h call, a poll, a reply that timed out, the queue emptied, the line restarted.
-pub enum Event {
-    Key(u8),
-    Call(u8, u8, u8),
-    Poll,
-    TimeOut,
-    Empty,
-    Restart,
-}
-
-// Why an int 16h call is turned away.
-pub enum Refusal {
-    Function,
-    Delay,
-    Rate,
-    Full,
-}
-
-// What an event answers; the module `answers` has the number and the word of each.
-pub enum Answer {
-    Nothing,
-    Put(Word),
-    Dropped(Word),
-    Break,
-    RestartAsked,
-    Overrun,
-    Taken,
-    Ignored,
-    Returned(Word),
-    NoWord,
-    Status(u16),
-    Done,
-    Stored(Word),
-    Send(u8),
-    Quiet,
-    GivenUp,
-    Refused(Refusal),
-}
-
-// What an event leaves and answers. `sent` counts the bytes of the command that runs or ended.
-pub struct Outcome {
-    pub service: Service,
-    pub answer: Answer,
-    pub sent: u8,
-}
-
-// A service made from lock bits. With refusal 1, for bits above 15, it is the service of bits 0.
-pub struct Made {
-    pub refusal: u8,
-    pub service: Service,
-}
 
 fn locks_of(bits: u8) -> Locks
     ensures { λ r. ⌜ r ≡ locksOf bits ⌝ }
@@ -121,40 +55,12 @@ pub fn make(bits: u8) -> Made
     }
 }
 
-fn with_queue(service: Service, queue: Queue) -> Service
-    ensures { λ r. ⌜ r ≡ withQueue service queue ⌝ }
-{
-    let mut next = service;
-    next.queue = queue;
-    next
-}
-
-fn with_line(service: Service, line: Line) -> Service
-    ensures { λ r. ⌜ r ≡ withLine service line ⌝ }
-{
-    let mut next = service;
-    next.line = line;
-    next
-}
-
-// An event that leaves the line's command alone: its count goes on being shown.
-fn answered(service: Service, answer: Answer) -> Outcome
-    ensures { λ r. ⌜ r ≡ answeredOf service answer ⌝ }
-{
-    let line = service.line;
-    let sent = line::sent(line);
-    Outcome {
-        service,
-        answer,
-        sent,
-    }
-}
-
 // The queue is emptied.
 pub fn empty(service: Service) -> Outcome
     ensures { λ r. ⌜ r ≡ emptyOf service ⌝ }
 {
-    answered(with_queue(service, queue::empty()), Answer::Done)
+    let next = events::with_queue(service, queue::empty());
+    events::answered(next, Answer::Done)
 }
 
 // One event.

@@ -3,10 +3,10 @@
 use Prim.Native.Nat.{ℕ}
 use mathlib.Core.List.{List, [], _∷_, _++_}
 use lib.ListN.{length, drop}
-use Rattle.service.specs.declared.Service.{Service}
-use Rattle.service.specs.State.{newService}
+use Rattle.events.specs.declared.Service.{Service}
+use Rattle.events.specs.State.{newService}
 use Rattle.pack.specs.Parsing.{Parsed, parse}
-use Rattle.report.specs.Digits.{digitOf, fourDigits}
+use Rattle.digits.specs.Digits.{digitOf, fourDigits}
 use Rattle.report.specs.Text.{lineEnd}
 use Rattle.report.specs.Reported.{textsOf}
 

@@ -3,14 +3,14 @@ ghost use mathlib.Core.Path.{_≡_};
 ghost use mathlib.Core.List.{_++_};
 ghost use Prim.Native.Nat.{_+_, _<_, _≤_};
 ghost use lib.ListN.{length, take, drop};
-ghost use Rattle.service.specs.State.{newService};
-ghost use Rattle.service.specs.Run.{next};
+ghost use Rattle.events.specs.State.{newService};
+ghost use Rattle.events.specs.Run.{next};
 ghost use Rattle.report.specs.Text.{textOf};
 ghost use Rattle.report.specs.Reported.{eventReport};
 ghost use Rattle.trace.specs.Trace.{closingOf, traceOf, tracedOf};
+use events::Event;
+use events::Service;
 use pack::Read;
-use service::Event;
-use service::Service;
 
 // Room for the reports of the most events that a pack can hold, one to a byte, and the closing lines.
 pub const LENGTH: usize = 1441811;
@@ -25,14 +25,14 @@ fn closing(end: usize, refusal: u8) -> [u8; CLOSING]
     ensures { λ r. ⌜ r ≡ closingOf end refusal ⌝ }
 {
     let offset = end as u16;
-    let high = report::digits::high_byte(offset);
-    let low = report::digits::low_byte(offset);
+    let high = digits::high_byte(offset);
+    let low = digits::low_byte(offset);
     let mut lines = BLANK;
-    lines[4] = report::digits::high(high);
-    lines[5] = report::digits::low(high);
-    lines[6] = report::digits::high(low);
-    lines[7] = report::digits::low(low);
-    lines[17] = report::digits::digit(refusal);
+    lines[4] = digits::high(high);
+    lines[5] = digits::low(high);
+    lines[6] = digits::high(low);
+    lines[7] = digits::low(low);
+    lines[17] = digits::digit(refusal);
     lines
 }
 

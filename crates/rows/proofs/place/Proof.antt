@@ -16,9 +16,6 @@ returns c = simp (le-ltb _ _ (c .if1 .taken))
 mul-result : tie.Need-mul-result
 mul-result c = search needs
 
-mul-result-2 : tie.Need-mul-result-2
-mul-result-2 c = search needs
-
 index-1-result : tie.Need-index-1-result
 index-1-result c = search needs
 
@@ -29,11 +26,8 @@ returns-2 : tie.Need-returns-2
 unfolding places if_then_else_
 returns-2 c = let a = c .before .before .before .args in placed (a .extended) true (a .code) (c .before .if2 .taken) (c .before .before .if1 .left)
 
-mul-result-3 : tie.Need-mul-result-3
-mul-result-3 c = search needs
-
-mul-result-4 : tie.Need-mul-result-4
-mul-result-4 c = search needs
+mul-result-2 : tie.Need-mul-result-2
+mul-result-2 c = search needs
 
 index-1-result-2 : tie.Need-index-1-result-2
 index-1-result-2 c = search needs
@@ -46,17 +40,4 @@ unfolding places if_then_else_
 returns-3 c = let a = c .before .before .before .args in placed (a .extended) false (a .code) (c .before .if2 .left) (c .before .before .if1 .left)
 
 pub place-spec : {M : Type 1} → statement M
-place-spec =
-    tie.close
-    (tie.spec
-    returns
-    mul-result
-    mul-result-2
-    index-1-result
-    index-2-result
-    returns-2
-    mul-result-3
-    mul-result-4
-    index-1-result-2
-    index-2-result-2
-    returns-3)
+place-spec = tie.close (tie.spec returns mul-result index-1-result index-2-result returns-2 mul-result-2 index-1-result-2 index-2-result-2 returns-3)

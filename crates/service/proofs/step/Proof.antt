@@ -1,6 +1,6 @@
 -- The proof of `service::step`.
 -- Assumes nothing.
-use Rattle.service.specs.Step.{stepOf}
+use Rattle.events.specs.Step.{stepOf}
 use borrow.Author.Needs.{needs}
 use Rattle.service.proofs.step.Statement.{statement}
 use Rattle.service.proofs.step.Tie as tie

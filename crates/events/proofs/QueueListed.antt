@@ -1,0 +1,242 @@
+-- The queue over lists of events is the list of words that the answers tell.
+-- Assumes nothing.
+use Prim.Native.Nat.{ℕ, _<_}
+use native.Mathlib.Omega.{arith}
+use mathlib.Core.Path.{_≡_, refl, sym, _∙_}
+use mathlib.Core.Bool.{Bool, true, false, _||_}
+use mathlib.Core.List.{List, [], _∷_, _++_}
+use lib.Dec.{eqb}
+use lib.ListN.{length}
+use borrow.Author.Tests.{ltb-true, ltb-false}
+use Rattle.bits.specs.Choice.{if_then_else_}
+use Rattle.bits.proofs.Choice.{by-test, either}
+use Rattle.word.specs.declared.Word.{Word}
+use Rattle.word.specs.Word.{wordAt}
+use Rattle.port.specs.declared.Effect.{Effect}
+use Rattle.port.specs.declared.Effect.the-variants as effect
+use Rattle.port.specs.KeyByte.{keyByteOf}
+use Rattle.queue.specs.declared.Queue.{Queue}
+use Rattle.queue.specs.Queue as queue
+use Rattle.queue.specs.Words.{wordsOf, Whole, hasRoom, putIn, oldestIn, restIn}
+use Rattle.queue.proofs.Laws.{at-most-fifteen, empty-holds-none, stays-whole, as-listed}
+use Rattle.line.specs.declared.Answer.{Answer as LineAnswer}
+use Rattle.line.specs.declared.Answer.the-variants as line-answer
+use Rattle.line.specs.declared.Outcome.{Outcome as LineOutcome}
+use Rattle.events.specs.declared.Service.{Service}
+use Rattle.events.specs.declared.Event.{Event}
+use Rattle.events.specs.declared.Event.the-variants.{Key, Call, Poll, TimeOut, Empty, Restart}
+use Rattle.events.specs.declared.Answer.{Answer}
+use Rattle.events.specs.declared.Answer.the-variants.{Taken, Break, Done}
+use Rattle.events.specs.declared.Outcome.{Outcome}
+use Rattle.events.specs.State.{newService}
+use Rattle.events.specs.Outcomes.{answeredOf}
+use Rattle.events.specs.Keyboard.{putAnswer, putOf, brokenOf, onEffect, typedOf, keyOf}
+use Rattle.events.specs.Commands.{lineAnswer, onLine, pollOf, acknowledgeOf, resendOf, timeOutOf, restartOf}
+use Rattle.events.specs.Functions.{oldestAnswer, storeAnswer, takeOf, lookOf, statusOf, setRateOf, storeOf, callOf}
+use Rattle.events.specs.Step.{emptyOf, stepOf}
+use Rattle.events.specs.Run.{next, after}
+use Rattle.events.specs.Queued.{removes, empties, wordsAfter, Fits, QueueAsListed, QueueAtMostFifteen}
+
+-- a queue, what an event answers and the queue after it
+record Told (event : Event) (before : Queue) (answer : Answer) (later : Queue) : Type 0 where
+  words : wordsOf later ≡ wordsAfter event answer (wordsOf before)
+  fits : Fits answer (wordsOf before)
+  whole : Whole later
+
+record Tells (event : Event) (before : Queue) (outcome : Outcome) : Type 0 where
+  told : Told event before (outcome .answer) (outcome .service .queue)
+
+-- ---- the queue is left alone
+
+-- an answer that says nothing of the queue
+record Idle (event : Event) (answer : Answer) : Type 0 where
+  words : (list : List Word) → wordsAfter event answer list ≡ list
+  fits : (list : List Word) → Fits answer list
+
+-- the answer 0B of an event that does not empty
+done : {event : Event} → empties event ≡ false → Idle event Done
+unfolding if_then_else_
+done e = record { words = λ list. simp e; fits = λ _. tt }
+
+emptied : (list : List Word) → [] ≡ wordsAfter Empty Done list
+unfolding if_then_else_
+emptied list = refl
+
+same : {event : Event} {answer : Answer} (q : Queue) → Whole q → Idle event answer → Told event q answer q
+same q w h = record { words = sym (h .words (wordsOf q)); fits = h .fits (wordsOf q); whole = w }
+
+-- ---- a word is put
+
+module _ (event : Event) (answer : Bool → Answer) (q : Queue) (word : Word) (w : Whole q)
+    (appends : (list : List Word) → wordsAfter event (answer true) list ≡ list ++ (word ∷ []))
+    (drops : (list : List Word) → wordsAfter event (answer false) list ≡ list)
+    (room : (list : List Word) → length list < 15 → Fits (answer true) list)
+    (none : (list : List Word) → length list ≡ 15 → Fits (answer false) list) where
+  put-by : (t : Bool) → hasRoom (wordsOf q) ≡ t → Told event q (answer t) (queue.putOf q word .queue)
+  unfolding putIn if_then_else_
+  put-by true e =
+      record {
+        words = as-listed .put q word w .words ∙ simp e (sym (appends (wordsOf q)));
+        fits = room (wordsOf q) (ltb-true (length (wordsOf q)) 15 e);
+        whole = stays-whole .put q word w;
+      }
+  put-by false e =
+      record {
+        words = as-listed .put q word w .words ∙ simp e (sym (drops (wordsOf q)));
+        fits = none (wordsOf q) (omega (arith, ltb-false (length (wordsOf q)) 15 e, at-most-fifteen q));
+        whole = stays-whole .put q word w;
+      }
+
+  put-told : Told event q (answer (queue.putOf q word .stored)) (queue.putOf q word .queue)
+  put-told = rw (as-listed .put q word w .stored) (put-by (hasRoom (wordsOf q)) refl)
+
+-- ---- keys
+
+broken-told : (event : Event) (q : Queue) → Told event q Break (queue.putOf queue.emptyQueue (wordAt 0x00 0x00) .queue)
+unfolding putIn if_then_else_
+broken-told event q =
+    let whole = stays-whole .empty in
+    record {
+      words = as-listed .put queue.emptyQueue (wordAt 0x00 0x00) whole .words ∙ simp empty-holds-none;
+      fits = tt;
+      whole = stays-whole .put queue.emptyQueue (wordAt 0x00 0x00) whole;
+    }
+
+effect-tells : (byte : ℕ) (service : Service) (e : Effect) → Whole (service .queue) → Tells (Key byte) (service .queue) (onEffect service e)
+unfolding onEffect answeredOf putOf brokenOf
+effect-tells byte service effect.Nothing w = record { told = same (service .queue) w (record { words = λ _. refl; fits = λ _. tt }) }
+effect-tells byte service (effect.Put word) w =
+    record { told = put-told (Key byte) (λ stored. putAnswer stored word) (service .queue) word w (λ _. refl) (λ _. refl) (λ _ h. h) (λ _ h. h) }
+effect-tells byte service effect.Break w = record { told = broken-told (Key byte) (service .queue) }
+effect-tells byte service effect.Restart w = record { told = same (service .queue) w (record { words = λ _. refl; fits = λ _. tt }) }
+effect-tells byte service effect.Overrun w = record { told = same (service .queue) w (record { words = λ _. refl; fits = λ _. tt }) }
+
+line-idle : (event : Event) (answer : LineAnswer) (taken : Answer) → Idle event taken → Idle event (lineAnswer answer taken)
+line-idle event (line-answer.Send byte) taken h = record { words = λ _. refl; fits = λ _. tt }
+line-idle event line-answer.Quiet taken h = record { words = λ _. refl; fits = λ _. tt }
+line-idle event line-answer.Taken taken h = h
+line-idle event line-answer.Ignored taken h = record { words = λ _. refl; fits = λ _. tt }
+line-idle event line-answer.GivenUp taken h = record { words = λ _. refl; fits = λ _. tt }
+
+line-tells : (event : Event) (service : Service) (after : LineOutcome) (taken : Answer) → Idle event taken → Whole (service .queue)
+    → Tells event (service .queue) (onLine service after taken)
+unfolding onLine
+line-tells event service after taken h w = record { told = same (service .queue) w (line-idle event (after .answer) taken h) }
+
+typed-tells : (service : Service) (byte : ℕ) → Whole (service .queue) → Tells (Key byte) (service .queue) (typedOf service byte)
+unfolding typedOf
+typed-tells service byte w = effect-tells byte _ (keyByteOf (service .port) (service .shared) byte .effect) w
+
+acknowledge-tells : (service : Service) (byte : ℕ) → Whole (service .queue) → Tells (Key byte) (service .queue) (acknowledgeOf service)
+unfolding acknowledgeOf
+acknowledge-tells service byte w = line-tells (Key byte) service _ Taken (record { words = λ _. refl; fits = λ _. tt }) w
+
+resend-tells : (service : Service) (byte : ℕ) → Whole (service .queue) → Tells (Key byte) (service .queue) (resendOf service)
+unfolding resendOf
+resend-tells service byte w = line-tells (Key byte) service _ Taken (record { words = λ _. refl; fits = λ _. tt }) w
+
+key-tells : (service : Service) (byte : ℕ) → Whole (service .queue) → Tells (Key byte) (service .queue) (keyOf service byte)
+unfolding keyOf
+key-tells service byte w =
+    either (Tells (Key byte) (service .queue)) _ _ _ (acknowledge-tells service byte w)
+    (either (Tells (Key byte) (service .queue)) _ _ _ (resend-tells service byte w) (typed-tells service byte w))
+
+-- ---- functions
+
+-- the answer for the first of a list, with the list after it
+oldest-by : (event : Event) (list after : List Word) → (if removes event then restIn list else list) ≡ after
+    → (after ≡ wordsAfter event (oldestAnswer (oldestIn list)) list) × Fits (oldestAnswer (oldestIn list)) list
+oldest-by event [] after e = (sym e ∙ either (λ (l : List Word). l ≡ []) (removes event) [] [] refl refl, refl)
+oldest-by event (word ∷ later) after e = (sym e, refl)
+
+-- 00 and 10
+take-tells : (function a b : ℕ) (service : Service) → (eqb function 0x00 || eqb function 0x10) ≡ true → Whole (service .queue)
+    → Tells (Call function a b) (service .queue) (takeOf service)
+unfolding takeOf answeredOf if_then_else_
+take-tells function a b service e w =
+    let list = wordsOf (service .queue) in
+    let listed = as-listed .take (service .queue) in
+    let by = oldest-by (Call function a b) list (restIn list) (simp e) in
+    record {
+      told =
+          record {
+            words = listed .words ∙ by .0 ∙ rw (listed .oldest);
+            fits = rw (listed .oldest) (by .1);
+            whole = stays-whole .take (service .queue) w;
+          };
+    }
+
+-- 01 and 11
+look-tells : (function a b : ℕ) (service : Service) → (eqb function 0x00 || eqb function 0x10) ≡ false → Whole (service .queue)
+    → Tells (Call function a b) (service .queue) (lookOf service)
+unfolding lookOf answeredOf if_then_else_
+look-tells function a b service e w =
+    let list = wordsOf (service .queue) in
+    let first = as-listed .first (service .queue) in
+    let by = oldest-by (Call function a b) list list (simp e) in
+    record { told = record { words = by .0 ∙ rw first; fits = rw first (by .1); whole = w } }
+
+-- an answer of a function that says nothing of the queue
+answered-tells : (event : Event) (service : Service) (answer : Answer) (q : Queue) → service .queue ≡ q → Whole q → Idle event answer
+    → Tells event q (answeredOf service answer)
+unfolding answeredOf
+answered-tells event service answer q e w h = record { told = rw e (same q w h) }
+
+store-tells : (function a b : ℕ) (service : Service) (word : Word) → Whole (service .queue) → Tells (Call function a b) (service .queue) (storeOf service word)
+unfolding storeOf answeredOf
+store-tells function a b service word w =
+    record {
+      told =
+          put-told (Call function a b) (λ stored. storeAnswer stored word) (service .queue) word w (λ _. refl) (λ _. refl) (λ _ h. h) (λ _ h. h);
+    }
+
+call-tells : (service : Service) (function a b : ℕ) → Whole (service .queue) → Tells (Call function a b) (service .queue) (callOf service function a b)
+unfolding callOf statusOf setRateOf
+call-tells service function a b w =
+    by-test (Tells event q) (eqb function 0x00 || eqb function 0x10) _ _ (λ e. take-tells function a b service e w)
+    (λ e.
+    either (Tells event q) _ _ _ (look-tells function a b service e w)
+    (either (Tells event q) _ _ _ (idle service _ refl (record { words = λ _. refl; fits = λ _. tt }))
+    (either (Tells event q) _ _ _ (idle service _ refl (record { words = λ _. refl; fits = λ _. tt }))
+    (either (Tells event q) _ _ _
+    (either (Tells event q) _ _ _ (idle service _ refl (record { words = λ _. refl; fits = λ _. tt }))
+    (either (Tells event q) _ _ _ (idle service _ refl (record { words = λ _. refl; fits = λ _. tt })) (idle _ Done refl (done refl))))
+    (either (Tells event q) _ _ _ (store-tells function a b service (wordAt a b) w) (idle service _ refl (record { words = λ _. refl; fits = λ _. tt })))))))
+  where
+    event : Event
+    event = Call function a b
+
+    q : Queue
+    q = service .queue
+
+    idle : (after : Service) (answer : Answer) → after .queue ≡ q → Idle event answer → Tells event q (answeredOf after answer)
+    idle after answer e h = answered-tells event after answer q e w h
+
+-- ---- every event
+
+step-tells : (service : Service) (event : Event) → Whole (service .queue) → Tells event (service .queue) (stepOf service event)
+unfolding stepOf pollOf timeOutOf restartOf emptyOf answeredOf
+step-tells service (Key byte) w = key-tells service byte w
+step-tells service (Call function a b) w = call-tells service function a b w
+step-tells service Poll w = line-tells Poll service _ Taken (record { words = λ _. refl; fits = λ _. tt }) w
+step-tells service TimeOut w = line-tells TimeOut service _ Done (done refl) w
+step-tells service Empty w = record { told = record { words = empty-holds-none ∙ emptied (wordsOf (service .queue)); fits = tt; whole = stays-whole .empty } }
+step-tells service Restart w = record { told = same (service .queue) w (done refl) }
+
+-- ---- lists
+
+whole-after : (service : Service) (events : List Event) → Whole (service .queue) → Whole (after service events .queue)
+whole-after service [] w = w
+whole-after service (event ∷ more) w = whole-after (next service event) more (step-tells service event w .told .whole)
+
+whole-new : (locks : ℕ) → Whole (newService locks .queue)
+unfolding newService
+whole-new locks = stays-whole .empty
+
+pub queue-as-listed : QueueAsListed
+queue-as-listed locks events event =
+    let told = step-tells (after (newService locks) events) event (whole-after (newService locks) events (whole-new locks)) .told in
+    record { words = told .words; fits = told .fits }
+
+pub queue-at-most-fifteen : QueueAtMostFifteen
+queue-at-most-fifteen locks events = at-most-fifteen (after (newService locks) events .queue)

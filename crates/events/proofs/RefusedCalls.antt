@@ -1,0 +1,157 @@
+-- Refused C events change nothing, so they can be taken out of any list.
+-- Assumes nothing.
+use Prim.Native.Nat.{ℕ}
+use mathlib.Core.Path.{_≡_, refl, ap, sym, _∙_}
+use mathlib.Core.Bool.{Bool, true, false, true≢false}
+use mathlib.Core.List.{List, [], _∷_}
+use lib.Dec.{ltb}
+use Rattle.bits.specs.Choice.{if_then_else_}
+use Rattle.bits.proofs.Choice.{either}
+use Rattle.word.specs.declared.Word.{Word}
+use Rattle.word.specs.Word.{wordAt}
+use Rattle.port.specs.declared.Effect.{Effect}
+use Rattle.port.specs.declared.Effect.the-variants as effect
+use Rattle.port.specs.KeyByte.{keyByteOf}
+use Rattle.queue.specs.declared.Queue.{Queue}
+use Rattle.queue.specs.declared.AfterPut.{AfterPut}
+use Rattle.queue.specs.declared.Oldest.{Oldest}
+use Rattle.queue.specs.declared.Oldest.the-variants.{None, Is}
+use Rattle.queue.specs.Queue as queue
+use Rattle.line.specs.declared.Answer.{Answer as LineAnswer}
+use Rattle.line.specs.declared.Answer.the-variants as line-answer
+use Rattle.line.specs.declared.Outcome.{Outcome as LineOutcome}
+use Rattle.events.specs.declared.Service.{Service}
+use Rattle.events.specs.declared.Event.{Event}
+use Rattle.events.specs.declared.Event.the-variants.{Key, Call, Poll, TimeOut, Empty, Restart}
+use Rattle.events.specs.declared.Answer.{Answer}
+use Rattle.events.specs.declared.Answer.the-variants.{Taken, Done}
+use Rattle.events.specs.declared.Outcome.{Outcome}
+use Rattle.events.specs.State.{withQueue}
+use Rattle.events.specs.Answers.{ansOf}
+use Rattle.events.specs.Outcomes.{answeredOf}
+use Rattle.events.specs.Keyboard.{putAnswer, putOf, brokenOf, onEffect, typedOf, keyOf}
+use Rattle.events.specs.Commands.{lineAnswer, onLine, pollOf, acknowledgeOf, resendOf, timeOutOf, restartOf}
+use Rattle.events.specs.Functions.{oldestAnswer, storeAnswer, takeOf, lookOf, statusOf, setRateOf, storeOf, callOf}
+use Rattle.events.specs.Step.{emptyOf, stepOf}
+use Rattle.events.specs.Run.{shownOf, next, run, after}
+use Rattle.events.specs.Refused.{isRefusal, accepted, RefusedChangeNothing, RefusedCallsChangeNothing}
+
+-- a refusal leaves the service as it was
+record Keeps (service : Service) (outcome : Outcome) : Type 0 where
+  kept : isRefusal (shownOf outcome) ≡ true → outcome .service ≡ service
+
+-- an answer that is no refusal
+record Accepts (answer : Answer) : Type 0 where
+  low : ltb 0x7F (ansOf answer) ≡ false
+
+accepting : {service : Service} {outcome : Outcome} → Accepts (outcome .answer) → Keeps service outcome
+accepting h = record { kept = λ e. absurd (true≢false (sym e ∙ h .low)) }
+
+unchanged : {service : Service} (outcome : Outcome) → outcome .service ≡ service → Keeps service outcome
+unchanged outcome e = record { kept = λ _. e }
+
+-- ---- the answers of keys and of the line
+
+accept-put : (stored : Bool) (word : Word) → Accepts (putAnswer stored word)
+accept-put true word = record { low = refl }
+accept-put false word = record { low = refl }
+
+accept-oldest : (oldest : Oldest) → Accepts (oldestAnswer oldest)
+accept-oldest None = record { low = refl }
+accept-oldest (Is word) = record { low = refl }
+
+accept-line : (answer : LineAnswer) (taken : Answer) → Accepts taken → Accepts (lineAnswer answer taken)
+accept-line (line-answer.Send byte) taken h = record { low = refl }
+accept-line line-answer.Quiet taken h = record { low = refl }
+accept-line line-answer.Taken taken h = h
+accept-line line-answer.Ignored taken h = record { low = refl }
+accept-line line-answer.GivenUp taken h = record { low = refl }
+
+effect-keeps : (service before : Service) (e : Effect) → Keeps before (onEffect service e)
+unfolding onEffect answeredOf putOf brokenOf
+effect-keeps service before effect.Nothing = accepting (record { low = refl })
+effect-keeps service before (effect.Put word) = accepting (accept-put (queue.putOf (service .queue) word .stored) word)
+effect-keeps service before effect.Break = accepting (record { low = refl })
+effect-keeps service before effect.Restart = accepting (record { low = refl })
+effect-keeps service before effect.Overrun = accepting (record { low = refl })
+
+typed-keeps : (service : Service) (byte : ℕ) → Keeps service (typedOf service byte)
+unfolding typedOf
+typed-keeps service byte = effect-keeps _ service (keyByteOf (service .port) (service .shared) byte .effect)
+
+line-keeps : (service : Service) (after : LineOutcome) (taken : Answer) → Accepts taken → Keeps service (onLine service after taken)
+unfolding onLine
+line-keeps service after taken h = accepting (accept-line (after .answer) taken h)
+
+acknowledge-keeps : (service : Service) → Keeps service (acknowledgeOf service)
+unfolding acknowledgeOf
+acknowledge-keeps service = line-keeps service _ Taken (record { low = refl })
+
+resend-keeps : (service : Service) → Keeps service (resendOf service)
+unfolding resendOf
+resend-keeps service = line-keeps service _ Taken (record { low = refl })
+
+key-keeps : (service : Service) (byte : ℕ) → Keeps service (keyOf service byte)
+unfolding keyOf
+key-keeps service byte =
+    either (Keeps service) _ _ _ (acknowledge-keeps service)
+    (either (Keeps service) _ _ _ (resend-keeps service) (typed-keeps service byte))
+
+-- ---- functions
+
+-- a word that is not stored leaves the queue
+record Unstored (q : Queue) (after : AfterPut) : Type 0 where
+  kept : after .stored ≡ false → after .queue ≡ q
+
+put-unstored : (q : Queue) (word : Word) → Unstored q (queue.putOf q word)
+unfolding queue.putOf
+put-unstored q word =
+    either (Unstored q) _ _ _ (record { kept = λ e. absurd (true≢false e) }) (record { kept = λ _. refl })
+
+store-keeps : (service : Service) (word : Word) (after : AfterPut) → Unstored (service .queue) after
+    → (stored : Bool) → after .stored ≡ stored → Keeps service (answeredOf (withQueue service (after .queue)) (storeAnswer (after .stored) word))
+unfolding answeredOf
+store-keeps service word after h true e = record { kept = λ r. absurd (true≢false (sym r ∙ simp e)) }
+store-keeps service word after h false e = record { kept = λ _. ap (withQueue service) (h .kept e) }
+
+call-keeps : (service : Service) (function a b : ℕ) → Keeps service (callOf service function a b)
+unfolding callOf takeOf lookOf statusOf setRateOf storeOf answeredOf
+call-keeps service function a b =
+    either (Keeps service) _ _ _ (accepting (accept-oldest (queue.takeOf (service .queue) .oldest)))
+    (either (Keeps service) _ _ _ (accepting (accept-oldest (queue.oldestOf (service .queue))))
+    (either (Keeps service) _ _ _ (accepting (record { low = refl }))
+    (either (Keeps service) _ _ _ (accepting (record { low = refl }))
+    (either (Keeps service) _ _ _
+    (either (Keeps service) _ _ _ (unchanged _ refl) (either (Keeps service) _ _ _ (unchanged _ refl) (accepting (record { low = refl }))))
+    (either (Keeps service) _ _ _
+    (store-keeps service (wordAt a b) (queue.putOf (service .queue) (wordAt a b)) (put-unstored (service .queue) (wordAt a b)) _ refl)
+    (unchanged _ refl))))))
+
+step-keeps : (service : Service) (event : Event) → Keeps service (stepOf service event)
+unfolding stepOf pollOf timeOutOf emptyOf answeredOf restartOf
+step-keeps service (Key byte) = key-keeps service byte
+step-keeps service (Call function a b) = call-keeps service function a b
+step-keeps service Poll = line-keeps service _ Taken (record { low = refl })
+step-keeps service TimeOut = line-keeps service _ Done (record { low = refl })
+step-keeps service Empty = accepting (record { low = refl })
+step-keeps service Restart = accepting (record { low = refl })
+
+-- ---- lists
+
+-- the two sides of the claim for a list with one event more
+taken-out : (service : Service) (event : Event) (more : List Event) (refused : Bool) → isRefusal (shownOf (stepOf service event)) ≡ refused
+    → RefusedChangeNothing (next service event) more → RefusedChangeNothing service (event ∷ more)
+unfolding if_then_else_
+taken-out service event more true e h =
+    let same : next service event ≡ service = step-keeps service event .kept e in
+    record {
+      shown = simp e (ap (λ (s : Service). run s (accepted (next service event) more)) (sym same) ∙ h .shown);
+      last = simp e (ap (λ (s : Service). after s (accepted (next service event) more)) (sym same) ∙ h .last);
+    }
+taken-out service event more false e h =
+    record { shown = simp e (ap (_∷_ (shownOf (stepOf service event))) (h .shown)); last = simp e (h .last) }
+
+pub refused-calls-change-nothing : RefusedCallsChangeNothing
+refused-calls-change-nothing service [] = record { shown = refl; last = refl }
+refused-calls-change-nothing service (event ∷ more) =
+    taken-out service event more _ refl (refused-calls-change-nothing (next service event) more)

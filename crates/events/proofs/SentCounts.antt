@@ -1,0 +1,232 @@
+-- `sent` counts the bytes that the answers of a list show as sent, at most six, at most three for each byte.
+-- Assumes nothing.
+use Prim.Native.Nat.{ℕ, _+_, _≤_}
+use native.Mathlib.Nat.{add-zero}
+use mathlib.Core.Path.{_≡_, refl, ap, sym, _∙_}
+use mathlib.Core.Bool.{Bool, true, false}
+use mathlib.Core.List.{List, [], _∷_, map}
+use lib.Dec.{eqb, lit≤}
+use Rattle.bits.specs.Choice.{if_then_else_}
+use Rattle.bits.proofs.Choice.{either}
+use Rattle.word.specs.declared.Word.{Word}
+use Rattle.word.specs.Word.{wordAt}
+use Rattle.port.specs.declared.Effect.{Effect}
+use Rattle.port.specs.declared.Effect.the-variants as effect
+use Rattle.port.specs.KeyByte.{keyByteOf}
+use Rattle.queue.specs.declared.Oldest.{Oldest}
+use Rattle.queue.specs.declared.Oldest.the-variants.{None, Is}
+use Rattle.queue.specs.Queue as queue
+use Rattle.line.specs.declared.Answer.{Answer as LineAnswer}
+use Rattle.line.specs.declared.Answer.the-variants as line-answer
+use Rattle.line.specs.declared.Outcome.{Outcome as LineOutcome}
+use Rattle.line.specs.declared.Line.{Line}
+use Rattle.line.specs.declared.Phase.{Phase}
+use Rattle.line.specs.declared.Phase.the-variants.{Idle, Awaiting, Ready}
+use Rattle.line.specs.State.{newLine, waitRateOf, sentIn, sentOf}
+use Rattle.line.specs.Inputs as input
+use Rattle.line.specs.Laws.{Within, sendsBy, Counts, CarriedIn}
+use Rattle.line.proofs.Within.{new-within, kept}
+use Rattle.line.proofs.Counts.{true-counts, sent-most}
+use Rattle.events.specs.declared.Service.{Service}
+use Rattle.events.specs.declared.Event.{Event}
+use Rattle.events.specs.declared.Event.the-variants.{Key, Call, Poll, TimeOut, Empty, Restart}
+use Rattle.events.specs.declared.Answer.{Answer}
+use Rattle.events.specs.declared.Answer.the-variants.{Taken, Done}
+use Rattle.events.specs.declared.Outcome.{Outcome}
+use Rattle.events.specs.State.{newService}
+use Rattle.events.specs.Answers.{ansOf}
+use Rattle.events.specs.Outcomes.{answeredOf}
+use Rattle.events.specs.Keyboard.{putAnswer, putOf, brokenOf, onEffect, typedOf, keyOf}
+use Rattle.events.specs.Commands.{ledValue, lineAnswer, onLine, pollOf, acknowledgeOf, resendOf, timeOutOf, restartOf}
+use Rattle.events.specs.Functions.{oldestAnswer, storeAnswer, takeOf, lookOf, statusOf, setRateOf, storeOf, callOf}
+use Rattle.events.specs.Step.{emptyOf, stepOf}
+use Rattle.events.specs.Run.{Shown, shownOf, next, run, after}
+use Rattle.events.specs.Sent.{bytesShown, countAt, carriedOn, countsOf, SentIsCounted, SentAtMostSix, ThreeSendsEach}
+
+-- an event's count is the one before it and the byte that it shows as sent, and goes on with the command
+record Right (service : Service) (outcome : Outcome) : Type 0 where
+  sent : outcome .sent ≡ sentOf (service .line) + bytesShown (shownOf outcome)
+  most : outcome .sent ≤ 6
+  carried : carriedOn (outcome .service .line .phase) (outcome .sent) ≡ sentOf (outcome .service .line)
+  within : Within (outcome .service .line)
+
+-- ---- events of the line
+
+-- a reply that is taken answers without a byte
+record Silent (answer : Answer) : Type 0 where
+  silent : eqb (ansOf answer) 0x0C ≡ false
+
+abbrev bytesIn : Answer → ℕ
+bytesIn answer = if eqb (ansOf answer) 0x0C then 1 else 0
+
+none-shown : (answer : Answer) → Silent answer → bytesIn answer ≡ 0
+unfolding if_then_else_
+none-shown answer h = simp (h .silent)
+
+bytes-of-line : (answer : LineAnswer) (taken : Answer) → Silent taken → bytesIn (lineAnswer answer taken) ≡ sendsBy answer
+unfolding if_then_else_
+bytes-of-line (line-answer.Send byte) taken h = refl
+bytes-of-line line-answer.Quiet taken h = refl
+bytes-of-line line-answer.Taken taken h = none-shown taken h
+bytes-of-line line-answer.Ignored taken h = refl
+bytes-of-line line-answer.GivenUp taken h = refl
+
+carried-in : (phase : Phase) (count : ℕ) → CarriedIn phase count → carriedOn phase count ≡ sentIn phase
+unfolding sentIn
+carried-in Idle count h = refl
+carried-in (Awaiting command) count h = sym h
+carried-in (Ready command) count h = sym h
+
+line-right : (service : Service) (after : LineOutcome) (taken : Answer) → Silent taken → Counts (service .line) after → Within (after .line)
+    → Right service (onLine service after taken)
+unfolding onLine sentOf
+line-right service after taken h c w =
+    record {
+      sent = c .shown ∙ ap (λ (n : ℕ). sentIn (service .line .phase) + n) (sym (bytes-of-line (after .answer) taken h));
+      most = c .most;
+      carried = carried-in (after .line .phase) (after .sent) (c .carried);
+      within = w;
+    }
+
+poll-right : (service : Service) → Within (service .line) → Right service (pollOf service)
+unfolding pollOf
+poll-right service w =
+    let led = ledValue (service .shared .locks) in
+    line-right service _ Taken (record { silent = refl }) (true-counts (service .line) w .poll led) (kept (service .line) (input.poll led) w)
+
+acknowledge-right : (service : Service) → Within (service .line) → Right service (acknowledgeOf service)
+unfolding acknowledgeOf
+acknowledge-right service w =
+    line-right service _ Taken (record { silent = refl }) (true-counts (service .line) w .acknowledge) (kept (service .line) input.acknowledge w)
+
+resend-right : (service : Service) → Within (service .line) → Right service (resendOf service)
+unfolding resendOf
+resend-right service w =
+    line-right service _ Taken (record { silent = refl }) (true-counts (service .line) w .resend) (kept (service .line) input.resend w)
+
+time-out-right : (service : Service) → Within (service .line) → Right service (timeOutOf service)
+unfolding timeOutOf
+time-out-right service w =
+    line-right service _ Done (record { silent = refl }) (true-counts (service .line) w .timeOut) (kept (service .line) input.timeOut w)
+
+-- ---- events beside the line
+
+goes-on : (phase : Phase) → carriedOn phase (sentIn phase) ≡ sentIn phase
+unfolding sentIn
+goes-on Idle = refl
+goes-on (Awaiting command) = refl
+goes-on (Ready command) = refl
+
+most : (line : Line) → Within line → sentIn (line .phase) ≤ 6
+unfolding sentOf
+most line w = sent-most line w
+
+answered-right : (before service : Service) (answer : Answer) → service .line .phase ≡ before .line .phase → Within (before .line) → Silent answer
+    → Right before (answeredOf service answer)
+unfolding answeredOf sentOf
+answered-right before service answer e w h =
+    record {
+      sent = ap sentIn e ∙ sym (ap (λ (n : ℕ). sentIn (before .line .phase) + n) (none-shown answer h) ∙ add-zero (sentIn (before .line .phase)));
+      most = rw e (most (before .line) w);
+      carried = goes-on (service .line .phase);
+      within = rw e w;
+    }
+
+silent-put : (stored : Bool) (word : Word) → Silent (putAnswer stored word)
+silent-put true word = record { silent = refl }
+silent-put false word = record { silent = refl }
+
+silent-oldest : (oldest : Oldest) → Silent (oldestAnswer oldest)
+silent-oldest None = record { silent = refl }
+silent-oldest (Is word) = record { silent = refl }
+
+silent-store : (stored : Bool) (word : Word) → Silent (storeAnswer stored word)
+silent-store true word = record { silent = refl }
+silent-store false word = record { silent = refl }
+
+effect-right : (before service : Service) (e : Effect) → service .line ≡ before .line → Within (before .line) → Right before (onEffect service e)
+unfolding onEffect putOf brokenOf
+effect-right before service effect.Nothing e w = answered-right before service _ (ap (λ (l : Line). l .phase) e) w (record { silent = refl })
+effect-right before service (effect.Put word) e w =
+    answered-right before _ _ (ap (λ (l : Line). l .phase) e) w (silent-put (queue.putOf (service .queue) word .stored) word)
+effect-right before service effect.Break e w = answered-right before _ _ (ap (λ (l : Line). l .phase) e) w (record { silent = refl })
+effect-right before service effect.Restart e w = answered-right before service _ (ap (λ (l : Line). l .phase) e) w (record { silent = refl })
+effect-right before service effect.Overrun e w = answered-right before service _ (ap (λ (l : Line). l .phase) e) w (record { silent = refl })
+
+typed-right : (service : Service) (byte : ℕ) → Within (service .line) → Right service (typedOf service byte)
+unfolding typedOf
+typed-right service byte w = effect-right service _ (keyByteOf (service .port) (service .shared) byte .effect) refl w
+
+key-right : (service : Service) (byte : ℕ) → Within (service .line) → Right service (keyOf service byte)
+unfolding keyOf
+key-right service byte w =
+    either (Right service) _ _ _ (acknowledge-right service w)
+    (either (Right service) _ _ _ (resend-right service w) (typed-right service byte w))
+
+call-right : (service : Service) (function a b : ℕ) → Within (service .line) → Right service (callOf service function a b)
+unfolding callOf takeOf lookOf statusOf setRateOf storeOf waitRateOf
+call-right service function a b w =
+    either (Right service) _ _ _ (answered-right service _ _ refl w (silent-oldest (queue.takeOf (service .queue) .oldest)))
+    (either (Right service) _ _ _ (answered-right service _ _ refl w (silent-oldest (queue.oldestOf (service .queue))))
+    (either (Right service) _ _ _ (answered-right service _ _ refl w (record { silent = refl }))
+    (either (Right service) _ _ _ (answered-right service _ _ refl w (record { silent = refl }))
+    (either (Right service) _ _ _
+    (either (Right service) _ _ _ (answered-right service _ _ refl w (record { silent = refl }))
+    (either (Right service) _ _ _ (answered-right service _ _ refl w (record { silent = refl })) (answered-right service _ _ refl w (record { silent = refl }))))
+    (either (Right service) _ _ _ (answered-right service _ _ refl w (silent-store (queue.putOf (service .queue) (wordAt a b) .stored) (wordAt a b)))
+    (answered-right service _ _ refl w (record { silent = refl })))))))
+
+-- ---- every event
+
+-- the count of an event, R's included
+record Counted (service : Service) (event : Event) : Type 0 where
+  count : stepOf service event .sent ≡ countAt (sentOf (service .line)) event (shownOf (stepOf service event))
+  most : stepOf service event .sent ≤ 6
+  carried : carriedOn (next service event .line .phase) (stepOf service event .sent) ≡ sentOf (next service event .line)
+  within : Within (next service event .line)
+
+restart-carries : carriedOn (newLine .phase) 0 ≡ sentOf newLine
+unfolding newLine sentOf sentIn
+restart-carries = refl
+
+step-counted : (service : Service) (event : Event) → Within (service .line) → Counted service event
+unfolding stepOf restartOf emptyOf
+step-counted service (Key byte) w = let r = key-right service byte w in record { count = r .sent; most = r .most; carried = r .carried; within = r .within }
+step-counted service (Call function a b) w =
+    let r = call-right service function a b w in record { count = r .sent; most = r .most; carried = r .carried; within = r .within }
+step-counted service Poll w = let r = poll-right service w in record { count = r .sent; most = r .most; carried = r .carried; within = r .within }
+step-counted service TimeOut w = let r = time-out-right service w in record { count = r .sent; most = r .most; carried = r .carried; within = r .within }
+step-counted service Empty w =
+    let r = answered-right service _ Done refl w (record { silent = refl }) in record { count = r .sent; most = r .most; carried = r .carried; within = r .within }
+step-counted service Restart w = record { count = refl; most = lit≤ tt; carried = restart-carries; within = new-within }
+
+-- ---- lists
+
+counted : (service : Service) (earlier : ℕ) (events : List Event) → Within (service .line) → sentOf (service .line) ≡ earlier
+    → map (λ (s : Shown). s .sent) (run service events) ≡ countsOf service earlier events
+counted service earlier [] w e = refl
+counted service earlier (event ∷ more) w e =
+    let step = step-counted service event w in
+    let count = countAt earlier event (shownOf (stepOf service event)) in
+    let now : stepOf service event .sent ≡ count = step .count ∙ ap (λ (n : ℕ). countAt n event (shownOf (stepOf service event))) e in
+    let later = carriedOn (next service event .line .phase) in
+    ap (λ (n : ℕ). n ∷ map (λ (s : Shown). s .sent) (run (next service event) more)) now
+    ∙ ap (λ (l : List ℕ). count ∷ l) (counted (next service event) (later count) more (step .within) (sym (step .carried) ∙ ap later now))
+
+within-after : (service : Service) (events : List Event) → Within (service .line) → Within (after service events .line)
+within-after service [] w = w
+within-after service (event ∷ more) w = within-after (next service event) more (step-counted service event w .within)
+
+within-new : (locks : ℕ) → Within (newService locks .line)
+unfolding newService
+within-new locks = new-within
+
+pub three-sends-each : ThreeSendsEach
+three-sends-each locks events = within-after (newService locks) events (within-new locks)
+
+pub sent-at-most-six : SentAtMostSix
+sent-at-most-six locks events event = step-counted (after (newService locks) events) event (three-sends-each locks events) .most
+
+pub sent-is-counted : SentIsCounted
+unfolding newService newLine sentOf sentIn
+sent-is-counted locks events = counted (newService locks) 0 events new-within refl

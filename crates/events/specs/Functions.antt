@@ -1,0 +1,66 @@
+-- Document 01, "Functions", with refusals 2 to 5.
+-- Assumes nothing.
+use Prim.Native.Nat.{ℕ, _+_, _*_}
+use mathlib.Core.Bool.{Bool, true, false, _||_}
+use lib.Dec.{eqb, ltb}
+use Rattle.bits.specs.Choice.{if_then_else_}
+use Rattle.word.specs.declared.Word.{Word}
+use Rattle.word.specs.Word.{wordAt}
+use Rattle.queue.specs.declared.Oldest.{Oldest}
+use Rattle.queue.specs.declared.Oldest.the-variants.{None, Is}
+use Rattle.queue.specs.Queue as queue
+use Rattle.line.specs.State.{waitRateOf}
+use Rattle.events.specs.declared.Service.{Service}
+use Rattle.events.specs.declared.Refusal.the-variants as refusal
+use Rattle.events.specs.declared.Answer.{Answer}
+use Rattle.events.specs.declared.Answer.the-variants.{Returned, NoWord, Status, Done, Stored, Refused}
+use Rattle.events.specs.declared.Outcome.{Outcome}
+use Rattle.events.specs.State.{withQueue, withLine}
+use Rattle.events.specs.Flags.{byte17Of, statusHigh}
+use Rattle.events.specs.Outcomes.{answeredOf}
+
+abbrev pub oldestAnswer : Oldest → Answer
+oldestAnswer None = NoWord
+oldestAnswer (Is word) = Returned word
+
+-- 00, 10: the oldest word, removed
+unfoldable pub takeOf : Service → Outcome
+takeOf service =
+    let taken = queue.takeOf (service .queue) in
+    answeredOf (withQueue service (taken .queue)) (oldestAnswer (taken .oldest))
+
+-- 01, 11: the oldest word, left
+unfoldable pub lookOf : Service → Outcome
+lookOf service = answeredOf service (oldestAnswer (queue.oldestOf (service .queue)))
+
+-- 02, 12: a status of a high and a low byte
+unfoldable pub statusOf : Service → ℕ → ℕ → Outcome
+statusOf service high low = answeredOf service (Status (high * 0x100 + low))
+
+-- 03: refusal 3 before 4, else the pair waits for the line
+unfoldable pub setRateOf : Service → ℕ → ℕ → Outcome
+setRateOf service delay rate =
+    if ltb 3 delay then answeredOf service (Refused refusal.Delay)
+    else if ltb 31 rate then answeredOf service (Refused refusal.Rate)
+    else answeredOf (withLine service (waitRateOf (service .line) (32 * delay + rate))) Done
+
+abbrev pub storeAnswer : Bool → Word → Answer
+storeAnswer true word = Stored word
+storeAnswer false word = Refused refusal.Full
+
+-- 05: the word is put, refusal 5 on a full queue
+unfoldable pub storeOf : Service → Word → Outcome
+storeOf service word =
+    let after = queue.putOf (service .queue) word in
+    answeredOf (withQueue service (after .queue)) (storeAnswer (after .stored) word)
+
+-- refusal 2: a function that is not listed
+unfoldable pub callOf : Service → ℕ → ℕ → ℕ → Outcome
+callOf service function a b =
+    if eqb function 0x00 || eqb function 0x10 then takeOf service
+    else if eqb function 0x01 || eqb function 0x11 then lookOf service
+    else if eqb function 0x02 then statusOf service 0x00 (byte17Of service)
+    else if eqb function 0x12 then statusOf service (statusHigh service) (byte17Of service)
+    else if eqb function 0x03 then setRateOf service a b
+    else if eqb function 0x05 then storeOf service (wordAt a b)
+    else answeredOf service (Refused refusal.Function)

@@ -1,0 +1,53 @@
+-- Document 01, "Keyboard bytes": step 1, and what the port's effect does to the queue.
+-- Assumes nothing.
+use Prim.Native.Nat.{ℕ}
+use mathlib.Core.Bool.{Bool, true, false}
+use lib.Dec.{eqb}
+use Rattle.bits.specs.Choice.{if_then_else_}
+use Rattle.word.specs.declared.Word.{Word}
+use Rattle.word.specs.Word.{wordAt}
+use Rattle.port.specs.declared.Effect.{Effect}
+use Rattle.port.specs.declared.Effect.the-variants as effect
+use Rattle.port.specs.KeyByte.{keyByteOf}
+use Rattle.queue.specs.Queue as queue
+use Rattle.events.specs.declared.Service.{Service}
+use Rattle.events.specs.declared.Answer.{Answer}
+use Rattle.events.specs.declared.Answer.the-variants.{Nothing, Put, Dropped, Break, RestartAsked, Overrun}
+use Rattle.events.specs.declared.Outcome.{Outcome}
+use Rattle.events.specs.State.{withPort, withQueue}
+use Rattle.events.specs.Outcomes.{answeredOf}
+use Rattle.events.specs.Commands.{acknowledgeOf, resendOf}
+
+abbrev pub putAnswer : Bool → Word → Answer
+putAnswer true word = Put word
+putAnswer false word = Dropped word
+
+-- a word put, or dropped where the queue is full; either way it is shown
+unfoldable pub putOf : Service → Word → Outcome
+putOf service word =
+    let after = queue.putOf (service .queue) word in
+    answeredOf (withQueue service (after .queue)) (putAnswer (after .stored) word)
+
+-- break: the queue is emptied and the word 0000 put
+unfoldable pub brokenOf : Service → Outcome
+brokenOf service = answeredOf (withQueue service (queue.putOf queue.emptyQueue (wordAt 0x00 0x00) .queue)) Break
+
+unfoldable pub onEffect : Service → Effect → Outcome
+onEffect service effect.Nothing = answeredOf service Nothing
+onEffect service (effect.Put word) = putOf service word
+onEffect service effect.Break = brokenOf service
+onEffect service effect.Restart = answeredOf service RestartAsked
+onEffect service effect.Overrun = answeredOf service Overrun
+
+-- steps 2 to 9
+unfoldable pub typedOf : Service → ℕ → Outcome
+typedOf service byte =
+    let decoded = keyByteOf (service .port) (service .shared) byte in
+    onEffect (withPort service (decoded .port) (decoded .shared)) (decoded .effect)
+
+-- step 1: FA and FE are the line's, and touch no prefix
+unfoldable pub keyOf : Service → ℕ → Outcome
+keyOf service byte =
+    if eqb byte 0xFA then acknowledgeOf service
+    else if eqb byte 0xFE then resendOf service
+    else typedOf service byte

@@ -1,0 +1,95 @@
+-- The queue over lists of events: at most 15 words, and every put appended or dropped as the list of words says.
+-- Assumes nothing.
+use Prim.Native.Nat.{ℕ, _<_, _≤_}
+use mathlib.Core.Path.{_≡_}
+use mathlib.Core.Bool.{Bool, true, false, _||_}
+use mathlib.Core.List.{List, [], _∷_, _++_}
+use lib.Dec.{eqb}
+use lib.ListN.{length}
+use Rattle.bits.specs.Choice.{if_then_else_}
+use Rattle.word.specs.declared.Word.{Word}
+use Rattle.word.specs.Word.{wordAt}
+use Rattle.queue.specs.Words.{wordsOf, restIn}
+use Rattle.events.specs.declared.Service.{Service}
+use Rattle.events.specs.declared.Event.{Event}
+use Rattle.events.specs.declared.Event.the-variants.{Key, Call, Poll, TimeOut, Empty, Restart}
+use Rattle.events.specs.declared.Refusal.the-variants as refusal
+use Rattle.events.specs.declared.Answer.{Answer}
+use Rattle.events.specs.declared.Answer.the-variants.{Nothing, Put, Dropped, Break, RestartAsked, Overrun, Taken, Ignored, Returned, NoWord, Status, Done, Stored, Send, Quiet, GivenUp, Refused}
+use Rattle.events.specs.State.{newService}
+use Rattle.events.specs.Step.{stepOf}
+use Rattle.events.specs.Run.{next, after}
+
+-- functions 00 and 10 remove the word that they return
+abbrev pub removes : Event → Bool
+removes (Key byte) = false
+removes (Call function a b) = eqb function 0x00 || eqb function 0x10
+removes Poll = false
+removes TimeOut = false
+removes Empty = false
+removes Restart = false
+
+-- E empties
+abbrev pub empties : Event → Bool
+empties (Key byte) = false
+empties (Call function a b) = false
+empties Poll = false
+empties TimeOut = false
+empties Empty = true
+empties Restart = false
+
+-- the words after an event, oldest first, by the event and its answer alone
+abbrev pub wordsAfter : Event → Answer → List Word → List Word
+wordsAfter event Nothing words = words
+wordsAfter event (Put word) words = words ++ (word ∷ [])
+wordsAfter event (Dropped word) words = words
+wordsAfter event Break words = wordAt 0x00 0x00 ∷ []
+wordsAfter event RestartAsked words = words
+wordsAfter event Overrun words = words
+wordsAfter event Taken words = words
+wordsAfter event Ignored words = words
+wordsAfter event (Returned word) words = if removes event then restIn words else words
+wordsAfter event NoWord words = words
+wordsAfter event (Status status) words = words
+wordsAfter event Done words = if empties event then [] else words
+wordsAfter event (Stored word) words = words ++ (word ∷ [])
+wordsAfter event (Send byte) words = words
+wordsAfter event Quiet words = words
+wordsAfter event GivenUp words = words
+wordsAfter event (Refused refusal) words = words
+
+-- a word is put below 15 words, dropped or refused at 15, returned as the first
+abbrev pub Fits : Answer → List Word → Type 0
+Fits Nothing words = Unit {0}
+Fits (Put word) words = length words < 15
+Fits (Dropped word) words = length words ≡ 15
+Fits Break words = Unit {0}
+Fits RestartAsked words = Unit {0}
+Fits Overrun words = Unit {0}
+Fits Taken words = Unit {0}
+Fits Ignored words = Unit {0}
+Fits (Returned word) words = words ≡ word ∷ restIn words
+Fits NoWord words = words ≡ []
+Fits (Status status) words = Unit {0}
+Fits Done words = Unit {0}
+Fits (Stored word) words = length words < 15
+Fits (Send byte) words = Unit {0}
+Fits Quiet words = Unit {0}
+Fits GivenUp words = Unit {0}
+Fits (Refused refusal.Function) words = Unit {0}
+Fits (Refused refusal.Delay) words = Unit {0}
+Fits (Refused refusal.Rate) words = Unit {0}
+Fits (Refused refusal.Full) words = length words ≡ 15
+
+-- an event does to the queue what its answer says
+pub record Listed (service : Service) (event : Event) : Type 0 where
+  pub words : wordsOf (next service event .queue) ≡ wordsAfter event (stepOf service event .answer) (wordsOf (service .queue))
+  pub fits : Fits (stepOf service event .answer) (wordsOf (service .queue))
+
+-- so it is at every event of every list from a new service
+abbrev pub QueueAsListed : Type 0
+QueueAsListed = (locks : ℕ) (events : List Event) (event : Event) → Listed (after (newService locks) events) event
+
+-- and no list brings more than 15 words
+abbrev pub QueueAtMostFifteen : Type 0
+QueueAtMostFifteen = (locks : ℕ) (events : List Event) → length (wordsOf (after (newService locks) events .queue)) ≤ 15

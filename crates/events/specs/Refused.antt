@@ -1,0 +1,35 @@
+-- Refused C events change nothing.
+-- Assumes nothing.
+use mathlib.Core.Path.{_≡_}
+use mathlib.Core.Bool.{Bool}
+use mathlib.Core.List.{List, [], _∷_}
+use lib.Dec.{ltb}
+use Rattle.bits.specs.Choice.{if_then_else_}
+use Rattle.events.specs.declared.Service.{Service}
+use Rattle.events.specs.declared.Event.{Event}
+use Rattle.events.specs.Step.{stepOf}
+use Rattle.events.specs.Run.{Shown, shownOf, next, run, after}
+
+-- a refusal shows 80 plus its number
+abbrev pub isRefusal : Shown → Bool
+isRefusal shown = ltb 0x7F (shown .ans)
+
+-- a list without the events that are refused when their turn comes
+abbrev pub accepted : Service → List Event → List Event
+accepted service [] = []
+accepted service (event ∷ more) =
+    if isRefusal (shownOf (stepOf service event)) then accepted (next service event) more
+    else event ∷ accepted (next service event) more
+
+-- what is shown, without the refusals
+abbrev pub unrefused : List Shown → List Shown
+unrefused [] = []
+unrefused (shown ∷ more) = if isRefusal shown then unrefused more else shown ∷ unrefused more
+
+-- taking the refused events out of a list changes no other answer and not the last service
+pub record RefusedChangeNothing (service : Service) (events : List Event) : Type 0 where
+  pub shown : run service (accepted service events) ≡ unrefused (run service events)
+  pub last : after service (accepted service events) ≡ after service events
+
+abbrev pub RefusedCallsChangeNothing : Type 0
+RefusedCallsChangeNothing = (service : Service) (events : List Event) → RefusedChangeNothing service events

@@ -1,0 +1,16 @@
+-- The proof of `image::queue_part::queue_of`.
+-- Assumes nothing.
+use Rattle.image.specs.ImageQueue.{queueAt}
+use borrow.Author.Needs.{needs}
+use Rattle.image.proofs.queue_part.queue_of.Statement.{statement}
+use Rattle.image.proofs.queue_part.queue_of.Tie as tie
+
+words-of-requires : tie.Need-words-of-requires
+words-of-requires c κs = search needs
+
+returns : tie.Need-returns
+unfolding queueAt
+returns c = simp (c .words-of .ensures)
+
+pub queue-of-spec : {M : Type 1} → statement M
+queue-of-spec = tie.close (tie.spec words-of-requires returns)

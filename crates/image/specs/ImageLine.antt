@@ -1,0 +1,103 @@
+-- Lines as numbers, and what any such numbers mean.
+-- Assumes nothing.
+use Prim.Native.Nat.{ℕ}
+use lib.Dec.{eqb}
+use Rattle.bits.specs.Choice.{if_then_else_}
+use Rattle.line.specs.declared.Kind.{Kind}
+use Rattle.line.specs.declared.Kind.the-variants.{Led, Rate}
+use Rattle.line.specs.declared.Command.{Command}
+use Rattle.line.specs.declared.Phase.{Phase}
+use Rattle.line.specs.declared.Phase.the-variants.{Idle, Awaiting, Ready}
+use Rattle.line.specs.declared.Setting.{Setting}
+use Rattle.line.specs.declared.Setting.the-variants.{None, Value}
+use Rattle.line.specs.declared.Marks.{Marks}
+use Rattle.line.specs.declared.Line.{Line}
+use Rattle.image.specs.declared.CommandImage.{CommandImage}
+use Rattle.image.specs.declared.SettingImage.{SettingImage}
+use Rattle.image.specs.declared.MarksImage.{MarksImage}
+use Rattle.image.specs.declared.LineImage.{LineImage}
+use Rattle.image.specs.ImagePort.{flagOf, isSet}
+
+abbrev pub kindNumber : Kind → ℕ
+kindNumber Led = 0
+kindNumber Rate = 1
+
+unfoldable pub kindAt : ℕ → Kind
+kindAt number = if eqb number 0 then Led else Rate
+
+abbrev pub settingImage : Setting → SettingImage
+settingImage None = record { known = 0; value = 0 }
+settingImage (Value value) = record { known = 1; value = value }
+
+unfoldable pub settingAt : SettingImage → Setting
+settingAt image = if eqb (image .known) 0 then None else Value (image .value)
+
+abbrev pub commandImage : ℕ → Command → CommandImage
+commandImage phase command =
+    record {
+      phase = phase;
+      kind = kindNumber (command .kind);
+      value = command .value;
+      operand = flagOf (command .operand);
+      sends = command .sends;
+      sent = command .sent;
+    }
+
+abbrev pub commandAt : CommandImage → Command
+commandAt image =
+    record {
+      kind = kindAt (image .kind);
+      value = image .value;
+      operand = isSet (image .operand);
+      sends = image .sends;
+      sent = image .sent;
+    }
+
+-- an idle line is 0, an awaited reply 1, a poll that is due 2
+abbrev pub phaseImage : Phase → CommandImage
+phaseImage Idle = record { phase = 0; kind = 0; value = 0; operand = 0; sends = 0; sent = 0 }
+phaseImage (Awaiting command) = commandImage 1 command
+phaseImage (Ready command) = commandImage 2 command
+
+-- any other number is an idle line
+unfoldable pub phaseAt : CommandImage → Phase
+phaseAt image =
+    if eqb (image .phase) 1 then Awaiting (commandAt image)
+    else if eqb (image .phase) 2 then Ready (commandAt image)
+    else Idle
+
+abbrev pub marksImage : Marks → MarksImage
+marksImage marks =
+    record {
+      done = marks .done;
+      acknowledged = flagOf (marks .acknowledged);
+      resend = flagOf (marks .resend);
+      abandoned = flagOf (marks .abandoned);
+    }
+
+abbrev pub marksAt : MarksImage → Marks
+marksAt image =
+    record {
+      done = image .done;
+      acknowledged = isSet (image .acknowledged);
+      resend = isSet (image .resend);
+      abandoned = isSet (image .abandoned);
+    }
+
+unfoldable pub lineImage : Line → LineImage
+lineImage line =
+    record {
+      command = phaseImage (line .phase);
+      handled = settingImage (line .handled);
+      rate = settingImage (line .rate);
+      marks = marksImage (line .marks);
+    }
+
+unfoldable pub lineAt : LineImage → Line
+lineAt image =
+    record {
+      phase = phaseAt (image .command);
+      handled = settingAt (image .handled);
+      rate = settingAt (image .rate);
+      marks = marksAt (image .marks);
+    }

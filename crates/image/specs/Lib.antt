@@ -1,0 +1,5 @@
+pub mod ImagePort
+pub mod ImageQueue
+pub mod ImageLine
+pub mod Image
+pub mod ImageLaws

@@ -1,0 +1,144 @@
+// Lines, to numbers and back.
+ghost use mathlib.Core.Path.{_≡_};
+ghost use Rattle.image.specs.ImageLine.{kindNumber, kindAt, settingImage, settingAt, commandImage, commandAt, phaseImage, phaseAt, lineImage, lineAt};
+use crate::CommandImage;
+use crate::LineImage;
+use crate::MarksImage;
+use crate::SettingImage;
+use line::Command;
+use line::Kind;
+use line::Line;
+use line::Marks;
+use line::Phase;
+use line::Setting;
+
+fn kind_number(kind: Kind) -> u8
+    ensures { λ r. ⌜ r ≡ kindNumber kind ⌝ }
+{
+    match kind {
+        Kind::Led => 0,
+        Kind::Rate => 1,
+    }
+}
+
+fn kind_of(number: u8) -> Kind
+    ensures { λ r. ⌜ r ≡ kindAt number ⌝ }
+{
+    if number == 0 {
+        return Kind::Led;
+    }
+    Kind::Rate
+}
+
+fn setting_image(setting: Setting) -> SettingImage
+    ensures { λ r. ⌜ r ≡ settingImage setting ⌝ }
+{
+    match setting {
+        Setting::None => SettingImage { known: 0, value: 0 },
+        Setting::Value(value) => SettingImage { known: 1, value },
+    }
+}
+
+fn setting_of(image: SettingImage) -> Setting
+    ensures { λ r. ⌜ r ≡ settingAt image ⌝ }
+{
+    if image.known == 0 {
+        return Setting::None;
+    }
+    Setting::Value(image.value)
+}
+
+fn command_image(phase: u8, command: Command) -> CommandImage
+    ensures { λ r. ⌜ r ≡ commandImage phase command ⌝ }
+{
+    let kind = command.kind;
+    CommandImage {
+        phase,
+        kind: kind_number(kind),
+        value: command.value,
+        operand: command.operand as u8,
+        sends: command.sends,
+        sent: command.sent,
+    }
+}
+
+fn command_of(image: CommandImage) -> Command
+    ensures { λ r. ⌜ r ≡ commandAt image ⌝ }
+{
+    Command {
+        kind: kind_of(image.kind),
+        value: image.value,
+        operand: image.operand != 0,
+        sends: image.sends,
+        sent: image.sent,
+    }
+}
+
+fn phase_image(phase: Phase) -> CommandImage
+    ensures { λ r. ⌜ r ≡ phaseImage phase ⌝ }
+{
+    match phase {
+        Phase::Idle => CommandImage {
+            phase: 0,
+            kind: 0,
+            value: 0,
+            operand: 0,
+            sends: 0,
+            sent: 0,
+        },
+        Phase::Awaiting(command) => command_image(1, command),
+        Phase::Ready(command) => command_image(2, command),
+    }
+}
+
+fn phase_of(image: CommandImage) -> Phase
+    ensures { λ r. ⌜ r ≡ phaseAt image ⌝ }
+{
+    if image.phase == 1 {
+        return Phase::Awaiting(command_of(image));
+    }
+    if image.phase == 2 {
+        return Phase::Ready(command_of(image));
+    }
+    Phase::Idle
+}
+
+pub fn image_of(line: Line) -> LineImage
+    ensures { λ r. ⌜ r ≡ lineImage line ⌝ }
+{
+    let phase = line.phase;
+    let handled = line.handled;
+    let rate = line.rate;
+    let marks = line.marks;
+    LineImage {
+        command: phase_image(phase),
+        handled: setting_image(handled),
+        rate: setting_image(rate),
+        marks: MarksImage {
+            done: marks.done,
+            acknowledged: marks.acknowledged as u8,
+            resend: marks.resend as u8,
+            abandoned: marks.abandoned as u8,
+        },
+    }
+}
+
+pub fn line_of(image: LineImage) -> Line
+    ensures { λ r. ⌜ r ≡ lineAt image ⌝ }
+{
+    let command = image.command;
+    let handled = image.handled;
+    let rate = image.rate;
+    let marks = image.marks;
+    Line {
+        phase: phase_of(command),
+        handled: setting_of(handled),
+        rate: setting_of(rate),
+        marks: Marks {
+            done: marks.done,
+            acknowledged: marks.acknowledged != 0,
+            resend: marks.resend != 0,
+            abandoned: marks.abandoned != 0,
+        },
+    }
+}

@@ -1,0 +1,106 @@
+-- Images follow their services, and a refusal leaves an image as it was.
+-- Assumes nothing.
+use Prim.Native.Nat.{ℕ, _<_}
+use mathlib.Core.Path.{_≡_, refl, ap, sym, _∙_}
+use mathlib.Core.Logic.{_≢_}
+use mathlib.Core.Bool.{true, true≢false}
+use mathlib.Core.List.{List, [], _∷_}
+use borrow.Author.Tests.{lt-ltb}
+use lib.Dec.{ltb}
+use lib.ListN.{length}
+use Rattle.bits.specs.Choice.{if_then_else_}
+use Rattle.bits.proofs.Choice.{by-test}
+use Rattle.events.specs.declared.Service.{Service}
+use Rattle.events.specs.declared.Event.{Event}
+use Rattle.events.specs.declared.Event.the-variants.{Key, Call, Poll, TimeOut, Empty, Restart}
+use Rattle.events.specs.declared.Outcome.{Outcome}
+use Rattle.events.specs.State.{makeOf}
+use Rattle.events.specs.Run.{Shown as Seen, shownOf as seenOf, next, run, after}
+use Rattle.events.specs.Step.{stepOf}
+use Rattle.report.specs.Reported.{reportLength}
+use Rattle.report.proofs.BufferLaws.{short-refused}
+use Rattle.image.specs.declared.Image.{Image}
+use Rattle.xiquepazo.specs.declared.by_image.Recognised.{Recognised}
+use Rattle.xiquepazo.specs.declared.by_image.Recognised.the-variants as recognised-as
+use Rattle.xiquepazo.specs.declared.by_image.Changed.{Changed}
+use Rattle.xiquepazo.specs.declared.by_image.Refused.{Refused}
+use Rattle.image.specs.Image.{imageOf, serviceOf}
+use Rattle.xiquepazo.specs.Exports.{shownOf, stepIn, unknownIn, recognised, taggedIn, triedIn, reportedAs, writtenAs, makeTo}
+use Rattle.xiquepazo.specs.ExportLaws.{seen, seenFrom, Follows, ImagesFollow, TagsRecognised, Leaves, UnknownRefused}
+use Rattle.lent.proofs.LentLaws.{refused-step}
+use Rattle.image.proofs.ImageLaws.{comes-back}
+
+step-follows : (image : Image) (event : Event) → serviceOf (stepIn image event .image) ≡ next (serviceOf image) event
+unfolding stepIn shownOf
+step-follows image event =
+    by-test (λ (changed : Changed). serviceOf (changed .image) ≡ next (serviceOf image) event) _ _ _
+    (λ refused. sym (refused-step (serviceOf image) event refused)) (λ _. comes-back (next (serviceOf image) event))
+
+step-shows : (image : Image) (event : Event) → seen (stepIn image event .shown) ≡ seenOf (stepOf (serviceOf image) event)
+unfolding stepIn shownOf
+step-shows image event = by-test (λ (changed : Changed). seen (changed .shown) ≡ seenOf (stepOf (serviceOf image) event)) _ _ _ (λ _. refl) (λ _. refl)
+
+pub images-follow : ImagesFollow
+images-follow image [] = record { shown = refl; last = refl }
+images-follow image (event ∷ more) =
+    let later : Follows (stepIn image event .image) more = images-follow (stepIn image event .image) more in
+    let onward : serviceOf (stepIn image event .image) ≡ next (serviceOf image) event = step-follows image event in
+    record {
+      shown =
+          ap (λ (first : Seen). first ∷ seenFrom (stepIn image event .image) more) (step-shows image event)
+          ∙ ap (λ (rest : List Seen). seenOf (stepOf (serviceOf image) event) ∷ rest) (later .shown ∙ ap (λ (service : Service). run service more) onward);
+      last = later .last ∙ ap (λ (service : Service). after service more) onward;
+    }
+
+pub tags-recognised : TagsRecognised
+unfolding recognised if_then_else_
+tags-recognised (Key byte) = refl
+tags-recognised (Call function a b) = refl
+tags-recognised Poll = refl
+tags-recognised TimeOut = refl
+tags-recognised Empty = refl
+tags-recognised Restart = refl
+
+-- ---- what a refusal leaves
+
+step-leaves : (image : Image) (event : Event) → ltb 0x7F (stepIn image event .shown .ans) ≡ true → stepIn image event .image ≡ image
+unfolding stepIn
+step-leaves image event =
+    let outcome : Outcome = stepOf (serviceOf image) event in
+    by-test (λ (changed : Changed). ltb 0x7F (changed .shown .ans) ≡ true → changed .image ≡ image) (ltb 0x7F (shownOf outcome .ans))
+    (record { image = image; shown = shownOf outcome }) (record { image = imageOf (outcome .service); shown = shownOf outcome })
+    (λ _ _. refl) (λ accepted refused. absurd (true≢false (sym refused ∙ accepted)))
+
+tagged-leaves : (image : Image) (event : Recognised) → ltb 0x7F (taggedIn image event .shown .ans) ≡ true → taggedIn image event .image ≡ image
+unfolding unknownIn
+tagged-leaves image recognised-as.Unknown refused = refl
+tagged-leaves image (recognised-as.Event event) refused = step-leaves image event refused
+
+tried-leaves : (image : Image) (refusal : ℕ) (after : Service) → triedIn image refusal after .refusal ≢ 0 → triedIn image refusal after .image ≡ image
+unfolding triedIn
+tried-leaves image refusal after =
+    by-test (λ (tried : Refused). tried .refusal ≢ 0 → tried .image ≡ image) _ _ _ (λ _ refused. absurd (refused refl)) (λ _ _. refl)
+
+report-leaves : (image : Image) (event : Recognised) (buffer : List ℕ) → reportedAs image event buffer .refusal ≢ 0 → reportedAs image event buffer .image ≡ image
+report-leaves image recognised-as.Unknown buffer refused = refl
+report-leaves image (recognised-as.Event event) buffer refused = tried-leaves image _ _ refused
+
+short-leaves : (image : Image) (event : Recognised) (buffer : List ℕ) → length buffer < reportLength → writtenAs image event buffer ≡ buffer
+short-leaves image recognised-as.Unknown buffer short = refl
+short-leaves image (recognised-as.Event event) buffer short = short-refused (serviceOf image) event buffer short .unwritten
+
+make-leaves : (image : Image) (bits : ℕ) → 15 < bits → makeTo image bits ≡ record { image = image; refusal = 1 }
+unfolding makeOf triedIn if_then_else_
+make-leaves image bits above = simp (lt-ltb _ _ above)
+
+pub leaves : Leaves
+leaves = record {
+  make = make-leaves;
+  event = λ image tagged. tagged-leaves image (recognised tagged);
+  report = λ image tagged. report-leaves image (recognised tagged);
+  short = λ image tagged. short-leaves image (recognised tagged);
+}
+
+pub unknown-refused : UnknownRefused
+unfolding unknownIn
+unknown-refused image tagged buffer unknown = record { ans = rw unknown; word = rw unknown; result = rw unknown; unwritten = rw unknown }

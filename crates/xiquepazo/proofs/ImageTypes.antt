@@ -1,0 +1,73 @@
+-- The image and what the exported calls take and return, as plain data.
+-- Assumes nothing.
+use mathlib.Core.Path.{refl}
+use mathlib.Core.List.{[]}
+use mir.Syntax.{Ty, tyNamed}
+use denote.Struct.Laws as LL
+use Rattle.image.proofs.Image as Image
+use Rattle.image.proofs.Image.Laws as Image′
+use Rattle.xiquepazo.proofs.by_image.Shown as Shown
+use Rattle.xiquepazo.proofs.by_image.Shown.Laws as Shown′
+use Rattle.xiquepazo.proofs.by_image.Tagged as Tagged
+use Rattle.xiquepazo.proofs.by_image.Tagged.Laws as Tagged′
+use Rattle.xiquepazo.proofs.by_image.FlagBytes as FlagBytes
+use Rattle.xiquepazo.proofs.by_image.FlagBytes.Laws as FlagBytes′
+use Rattle.xiquepazo.proofs.by_image.Changed as Changed
+use Rattle.xiquepazo.proofs.by_image.Changed.Laws as Changed′
+use Rattle.xiquepazo.proofs.by_image.Refused as Refused
+use Rattle.xiquepazo.proofs.by_image.Refused.Laws as Refused′
+use Rattle.lent.proofs.Plain.{Plain, struct, Outcome}
+use Rattle.lent.proofs.Types.{byte}
+
+abbrev pub image : Plain
+image = struct Image.the-type Image′.the-laws Image′.the-plain
+
+abbrev pub image-name : Ty
+image-name = tyNamed (Image.the-type .name, [])
+
+abbrev pub shown : Plain
+shown = struct Shown.the-type Shown′.the-laws Shown′.the-plain
+
+abbrev pub tagged : Plain
+tagged = struct Tagged.the-type Tagged′.the-laws Tagged′.the-plain
+
+abbrev pub flag-bytes : Plain
+flag-bytes = struct FlagBytes.the-type FlagBytes′.the-laws FlagBytes′.the-plain
+
+abbrev pub changed : Outcome image shown
+changed = record {
+  Denot = Changed.the-type .D;
+  left = λ r. r .image;
+  reply = λ r. r .shown;
+  make = λ x y. record { image = x; shown = y };
+  eta = λ r. refl;
+  name = Changed.the-type .name;
+  written = Changed.the-row .written;
+  reaches = Changed.the-row .reaches;
+  own = Changed.the-row .own;
+  coded = Changed.the-row .coded;
+  tells = LL.tells Changed.the-type Changed′.the-laws;
+  typed = λ 𝓤 H A W r v is. LL.lawful Changed.the-type Changed′.the-laws 𝓤 H A W .typed r _ is .0;
+  makes = λ 𝓤 H A W. LL.makes Changed.the-type Changed′.the-plain 𝓤 H A;
+  parts = λ r vs is. let of = LL.owed Changed.the-type Changed′.the-laws r vs is in (of .0, of .1 .0);
+  owes = λ x y is-x is-y. LL.owes Changed.the-type Changed′.the-laws (record { image = x; shown = y }) (is-x, (is-y, tt));
+}
+
+abbrev pub refused : Outcome image byte
+refused = record {
+  Denot = Refused.the-type .D;
+  left = λ r. r .image;
+  reply = λ r. r .refusal;
+  make = λ x y. record { image = x; refusal = y };
+  eta = λ r. refl;
+  name = Refused.the-type .name;
+  written = Refused.the-row .written;
+  reaches = Refused.the-row .reaches;
+  own = Refused.the-row .own;
+  coded = Refused.the-row .coded;
+  tells = LL.tells Refused.the-type Refused′.the-laws;
+  typed = λ 𝓤 H A W r v is. LL.lawful Refused.the-type Refused′.the-laws 𝓤 H A W .typed r _ is .0;
+  makes = λ 𝓤 H A W. LL.makes Refused.the-type Refused′.the-plain 𝓤 H A;
+  parts = λ r vs is. let of = LL.owed Refused.the-type Refused′.the-laws r vs is in (of .0, of .1 .0);
+  owes = λ x y is-x is-y. LL.owes Refused.the-type Refused′.the-laws (record { image = x; refusal = y }) (is-x, (is-y, tt));
+}

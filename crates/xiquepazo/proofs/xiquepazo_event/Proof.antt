@@ -1,0 +1,15 @@
+-- The proof of `xiquepazo::xiquepazo_event`: the walk of `LentWithOne` over `by_image::event`.
+-- Assumes nothing.
+use Rattle.xiquepazo.specs.Exports.{eventTo}
+use Rattle.xiquepazo.proofs.ImageTypes.{image, image-name, shown, changed, tagged}
+use Rattle.lent.proofs.LentWithOne.{proved}
+use Rattle.xiquepazo.proofs.by_image.event.Symbol as core
+use Rattle.xiquepazo.proofs.by_image.event.Met as core-met
+use Rattle.xiquepazo.proofs.xiquepazo_event.Key as key
+use Rattle.xiquepazo.proofs.xiquepazo_event.Code as code
+use Rattle.xiquepazo.proofs.xiquepazo_event.Statement.{statement}
+
+pub xiquepazo-event-spec : {M : Type 1} → statement M
+unfolding code.routine
+xiquepazo-event-spec 𝓤 H 𝓜 𝓖 𝓡 =
+    proved image shown tagged changed image-name core.name eventTo 𝓤 H 𝓜 𝓖 𝓡 code.env key.name (code.unfolded 𝓤 H 𝓜 𝓡) core.routine code.calls-xiquepazo·by-image·event (core-met.met 𝓤 H 𝓜 𝓖 𝓡)

@@ -1,0 +1,16 @@
+-- The proof of `xiquepazo::xiquepazo_make`: the walk of `LentWithOne` over `by_image::make`.
+-- Assumes nothing.
+use Rattle.xiquepazo.specs.Exports.{makeTo}
+use Rattle.xiquepazo.proofs.ImageTypes.{image, image-name, refused}
+use Rattle.lent.proofs.Types.{byte}
+use Rattle.lent.proofs.LentWithOne.{proved}
+use Rattle.xiquepazo.proofs.by_image.make.Symbol as core
+use Rattle.xiquepazo.proofs.by_image.make.Met as core-met
+use Rattle.xiquepazo.proofs.xiquepazo_make.Key as key
+use Rattle.xiquepazo.proofs.xiquepazo_make.Code as code
+use Rattle.xiquepazo.proofs.xiquepazo_make.Statement.{statement}
+
+pub xiquepazo-make-spec : {M : Type 1} → statement M
+unfolding code.routine
+xiquepazo-make-spec 𝓤 H 𝓜 𝓖 𝓡 =
+    proved image byte byte refused image-name core.name makeTo 𝓤 H 𝓜 𝓖 𝓡 code.env key.name (code.unfolded 𝓤 H 𝓜 𝓡) core.routine code.calls-xiquepazo·by-image·make (core-met.met 𝓤 H 𝓜 𝓖 𝓡)

@@ -1,0 +1,117 @@
+-- The calls for C: what each leaves in the image that is lent, what it returns, and what it writes. A call that is refused, by any number,
+-- leaves the image as it was, number for number.
+-- Assumes nothing.
+use Prim.Native.Nat.{ℕ}
+use mathlib.Core.List.{List}
+use lib.Dec.{eqb, ltb}
+use Rattle.bits.specs.Choice.{if_then_else_}
+use Rattle.line.specs.State.{sentOf}
+use Rattle.events.specs.declared.Service.{Service}
+use Rattle.events.specs.declared.Event.{Event}
+use Rattle.events.specs.declared.Event.the-variants.{Key, Call, Poll, TimeOut, Empty, Restart}
+use Rattle.events.specs.declared.Outcome.{Outcome}
+use Rattle.events.specs.State.{makeOf}
+use Rattle.events.specs.Flags.{byte17Of, byte18Of, byte96Of, byte97Of}
+use Rattle.events.specs.Answers.{ansOf, wordOf}
+use Rattle.events.specs.Step.{stepOf}
+use Rattle.report.specs.Reported.{reportedOf, bufferOf}
+use Rattle.image.specs.declared.Image.{Image}
+use Rattle.xiquepazo.specs.declared.by_image.Shown.{Shown}
+use Rattle.xiquepazo.specs.declared.by_image.Tagged.{Tagged}
+use Rattle.xiquepazo.specs.declared.by_image.FlagBytes.{FlagBytes}
+use Rattle.xiquepazo.specs.declared.by_image.Recognised.{Recognised}
+use Rattle.xiquepazo.specs.declared.by_image.Recognised.the-variants as recognised-as
+use Rattle.xiquepazo.specs.declared.by_image.Changed.{Changed}
+use Rattle.xiquepazo.specs.declared.by_image.Refused.{Refused}
+use Rattle.image.specs.Image.{imageOf, serviceOf}
+
+-- what is seen of an event, as document 01's report shows it
+abbrev pub shownWith : Service → ℕ → ℕ → ℕ → Shown
+shownWith service ans word sent =
+    record {
+      word = word;
+      ans = ans;
+      sent = sent;
+      byte17 = byte17Of service;
+      byte18 = byte18Of service;
+      byte96 = byte96Of service;
+      byte97 = byte97Of service;
+    }
+
+unfoldable pub shownOf : Outcome → Shown
+shownOf outcome = shownWith (outcome .service) (ansOf (outcome .answer)) (wordOf (outcome .answer)) (outcome .sent)
+
+-- the image of the service after an event; a refusal, 80 plus its number, leaves the image
+abbrev pub changedBy : Image → Outcome → Changed
+changedBy image outcome =
+    if ltb 0x7F (shownOf outcome .ans) then record { image = image; shown = shownOf outcome }
+    else record { image = imageOf (outcome .service); shown = shownOf outcome }
+
+unfoldable pub stepIn : Image → Event → Changed
+stepIn image event = changedBy image (stepOf (serviceOf image) event)
+
+-- refusal 6: the flags and the count of bytes sent are shown as they stand
+unfoldable pub unknownIn : Image → Changed
+unknownIn image = let service = serviceOf image in record { image = image; shown = shownWith service 0x86 0 (sentOf (service .line)) }
+
+-- the events by the capitals that a pack has for them
+unfoldable pub recognised : Tagged → Recognised
+recognised tagged =
+    if eqb (tagged .tag) 0x4B then recognised-as.Event (Key (tagged .a))
+    else if eqb (tagged .tag) 0x43 then recognised-as.Event (Call (tagged .a) (tagged .b) (tagged .c))
+    else if eqb (tagged .tag) 0x50 then recognised-as.Event Poll
+    else if eqb (tagged .tag) 0x54 then recognised-as.Event TimeOut
+    else if eqb (tagged .tag) 0x45 then recognised-as.Event Empty
+    else if eqb (tagged .tag) 0x52 then recognised-as.Event Restart
+    else recognised-as.Unknown
+
+abbrev pub taggedIn : Image → Recognised → Changed
+taggedIn image recognised-as.Unknown = unknownIn image
+taggedIn image (recognised-as.Event event) = stepIn image event
+
+abbrev pub keyTo : Image → ℕ → Changed
+keyTo image byte = stepIn image (Key byte)
+
+abbrev pub callTo : Image → ℕ → ℕ → ℕ → Changed
+callTo image function a b = stepIn image (Call function a b)
+
+abbrev pub pollTo : Image → Changed
+pollTo image = stepIn image Poll
+
+abbrev pub eventTo : Image → Tagged → Changed
+eventTo image tagged = taggedIn image (recognised tagged)
+
+-- the image of what a call left, or refused by its number
+unfoldable pub triedIn : Image → ℕ → Service → Refused
+triedIn image refusal after =
+    if eqb refusal 0 then record { image = imageOf after; refusal = 0 } else record { image = image; refusal = refusal }
+
+abbrev pub makeTo : Image → ℕ → Refused
+makeTo image bits = triedIn image (makeOf bits .refusal) (makeOf bits .service)
+
+abbrev pub reportIn : Image → Event → List ℕ → Refused
+reportIn image event buffer =
+    let reported = reportedOf (serviceOf image) event buffer in triedIn image (reported .refusal) (reported .service)
+
+abbrev pub writtenIn : Image → Event → List ℕ → List ℕ
+writtenIn image event buffer = bufferOf (serviceOf image) event buffer
+
+abbrev pub reportedAs : Image → Recognised → List ℕ → Refused
+reportedAs image recognised-as.Unknown buffer = record { image = image; refusal = 6 }
+reportedAs image (recognised-as.Event event) buffer = reportIn image event buffer
+
+abbrev pub writtenAs : Image → Recognised → List ℕ → List ℕ
+writtenAs image recognised-as.Unknown buffer = buffer
+writtenAs image (recognised-as.Event event) buffer = writtenIn image event buffer
+
+-- 6 comes before 9, since there is no event to report
+abbrev pub reportTo : Image → Tagged → List ℕ → Refused
+reportTo image tagged buffer = reportedAs image (recognised tagged) buffer
+
+abbrev pub writtenTo : Image → Tagged → List ℕ → List ℕ
+writtenTo image tagged buffer = writtenAs image (recognised tagged) buffer
+
+abbrev pub flagsTo : Image → FlagBytes
+flagsTo image =
+    let service = serviceOf image in
+    record { byte17 = byte17Of service; byte18 = byte18Of service; byte96 = byte96Of service; byte97 = byte97Of service }
