@@ -1,5 +1,8 @@
 // The report of an event: 44 bytes of text, and the call that runs an event and writes its report to a lent buffer.
 ghost use mathlib.Core.Path.{_≡_};
+ghost use mathlib.Core.List.{_++_};
+ghost use Prim.Native.Nat.{_≤_};
+ghost use lib.ListN.{length, drop};
 ghost use Rattle.report.specs.Report.{tagOf, reportOf};
 ghost use Rattle.report.specs.Text.{textOf};
 ghost use Rattle.report.specs.Reported.{refusalIn, reportedOf, bufferOf};
@@ -65,30 +68,32 @@ pub fn report_of(event: Event, outcome: Outcome) -> Report
     }
 }
 
-// The 44 bytes of a report.
-pub fn text(report: Report) -> [u8; LENGTH]
-    ensures { λ r. ⌜ r ≡ textOf report ⌝ }
+// The text of a report over the first 44 bytes of a buffer. The five lines go there whole and are then filled in, which takes fewer writes than to
+// make the text first and copy it.
+fn write(report: Report, buffer: &mut [u8])
+    requires { ⌜ 44 ≤ length (now buffer) ⌝ }
+    ensures { λ _. ⌜ now (buffer .exit) ≡ textOf report ++ drop 44 (now (buffer .entry)) ⌝ }
 {
     let high = digits::high_byte(report.word);
     let low = digits::low_byte(report.word);
-    let mut text = BLANK;
-    text[3] = report.tag;
-    text[9] = digits::high(report.ans);
-    text[10] = digits::low(report.ans);
-    text[17] = digits::high(high);
-    text[18] = digits::low(high);
-    text[19] = digits::high(low);
-    text[20] = digits::low(low);
-    text[28] = digits::high(report.byte17);
-    text[29] = digits::low(report.byte17);
-    text[30] = digits::high(report.byte18);
-    text[31] = digits::low(report.byte18);
-    text[32] = digits::high(report.byte96);
-    text[33] = digits::low(report.byte96);
-    text[34] = digits::high(report.byte97);
-    text[35] = digits::low(report.byte97);
-    text[42] = digits::digit(report.sent);
-    text
+    let blank = BLANK;
+    bytes::copy(&blank, buffer);
+    buffer[3] = report.tag;
+    buffer[9] = digits::high(report.ans);
+    buffer[10] = digits::low(report.ans);
+    buffer[17] = digits::high(high);
+    buffer[18] = digits::low(high);
+    buffer[19] = digits::high(low);
+    buffer[20] = digits::low(low);
+    buffer[28] = digits::high(report.byte17);
+    buffer[29] = digits::low(report.byte17);
+    buffer[30] = digits::high(report.byte18);
+    buffer[31] = digits::low(report.byte18);
+    buffer[32] = digits::high(report.byte96);
+    buffer[33] = digits::low(report.byte96);
+    buffer[34] = digits::high(report.byte97);
+    buffer[35] = digits::low(report.byte97);
+    buffer[42] = digits::digit(report.sent);
 }
 
 // The number of the refusal that an ans shows, 0 if it shows none.
@@ -114,8 +119,7 @@ pub fn report_event(service: Service, event: Event, buffer: &mut [u8]) -> Report
     }
     let outcome = service::step(service, event);
     let report = report_of(event, outcome);
-    let text = text(report);
-    bytes::copy(&text, buffer);
+    write(report, buffer);
     let after = outcome.service;
     Reported {
         refusal: refusal(report.ans),

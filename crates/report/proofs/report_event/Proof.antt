@@ -5,7 +5,6 @@ use native.Mathlib.Omega.{arith}
 use lib.ListN.{length}
 use borrow.Author.Tests.{le-ltb, lt-ltb}
 use Rattle.bits.specs.Choice.{if_then_else_}
-use Rattle.report.specs.Text.{textOf}
 use Rattle.report.specs.Reported.{reportLength, reportedOf, bufferOf}
 use borrow.Author.Needs.{needs}
 use Rattle.report.proofs.report_event.Statement.{statement}
@@ -21,14 +20,8 @@ step-requires c κs = search needs
 report-of-requires : tie.Need-report-of-requires
 report-of-requires c κs = search needs
 
-text-requires : tie.Need-text-requires
-text-requires c κs = search needs
-
-slice-aggregate-copy : tie.Need-slice-aggregate-copy
-slice-aggregate-copy c = search needs
-
-copy-requires : tie.Need-copy-requires
-copy-requires c κs = search needs
+write-requires : tie.Need-write-requires
+write-requires c κs = search needs
 
 refusal-requires : tie.Need-refusal-requires
 refusal-requires c κs = search needs
@@ -37,25 +30,13 @@ same-length : tie.Need-same-length
 same-length c = search needs
 
 returns-2 : tie.Need-returns-2
-unfolding reportedOf bufferOf textOf if_then_else_
+unfolding reportedOf bufferOf if_then_else_
 returns-2 c =
-    let copied = c .before .before .before .before in
-    let written = copied .before .before .before in
-    let reported = written .before in
+    let written = c .before .before .before .before in
+    let reported = written .before .before in
     let stepped = reported .before in
     let long = le-ltb (length (stepped .before .before .before .args .buffer .now)) reportLength (omega (arith, stepped .before .if1 .left)) in
-    (simp long (cc), simp (long, copied .copy .ensures .1, written .text .ensures, ← (reported .report-of .ensures), ← (stepped .step .ensures)))
+    (simp long (cc), simp (long, written .write .ensures, ← (reported .report-of .ensures), ← (stepped .step .ensures)))
 
 pub report-event-spec : {M : Type 1} → statement M
-report-event-spec =
-    tie.close
-    (tie.spec
-    returns
-    step-requires
-    report-of-requires
-    text-requires
-    slice-aggregate-copy
-    copy-requires
-    refusal-requires
-    same-length
-    returns-2)
+report-event-spec = tie.close (tie.spec returns step-requires report-of-requires write-requires refusal-requires same-length returns-2)

@@ -1,0 +1,36 @@
+-- The proof of `report::write`. A byte that is written leaves the buffer's length, so each place of the text is within it.
+-- Assumes nothing.
+use lib.ListN.{length-set}
+use Rattle.report.specs.Text.{textOf}
+use borrow.Author.Needs.{needs}
+use Rattle.report.proofs.write.Statement.{statement}
+use Rattle.report.proofs.write.Tie as tie
+
+returns : tie.Need-returns
+unfolding textOf
+returns c =
+    let copied = c .before .before .before .before .before .before .before .before .before .before .before .before .before .before .before .before .before in
+    rw (copied .copy .ensures .1) (cc)
+
+pub write-spec : {M : Type 1} → statement M
+write-spec =
+    tie.close
+    (tie.spec
+    (λ c κs. search needs) (λ c κs. search needs) (λ c. search needs) (λ c κs. search needs) (λ c. search needs)
+    (λ c κs. search needs) (λ c. simp length-set (search needs))
+    (λ c κs. search needs) (λ c. simp length-set (search needs))
+    (λ c κs. search needs) (λ c. simp length-set (search needs))
+    (λ c κs. search needs) (λ c. simp length-set (search needs))
+    (λ c κs. search needs) (λ c. simp length-set (search needs))
+    (λ c κs. search needs) (λ c. simp length-set (search needs))
+    (λ c κs. search needs) (λ c. simp length-set (search needs))
+    (λ c κs. search needs) (λ c. simp length-set (search needs))
+    (λ c κs. search needs) (λ c. simp length-set (search needs))
+    (λ c κs. search needs) (λ c. simp length-set (search needs))
+    (λ c κs. search needs) (λ c. simp length-set (search needs))
+    (λ c κs. search needs) (λ c. simp length-set (search needs))
+    (λ c κs. search needs) (λ c. simp length-set (search needs))
+    (λ c κs. search needs) (λ c. simp length-set (search needs))
+    (λ c κs. search needs) (λ c. simp length-set (search needs))
+    (λ c. simp length-set (search needs))
+    returns)
