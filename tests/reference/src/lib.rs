@@ -2,8 +2,8 @@
 //! compared with the delivered program. It shares nothing with the delivered code.
 //!
 //! Programs: `reference-trace` prints the trace of the pack on standard input; `compare PROGRAM`
-//! runs a program on every generated pack and shows the first difference; `generate FOLDER` writes
-//! the generated packs; `store FOLDER` writes the kept packs with their names and texts.
+//! runs a program on every generated pack and shows the first difference; `store FOLDER` writes the
+//! kept packs with their names and texts.
 
 pub mod answer;
 pub mod flags;

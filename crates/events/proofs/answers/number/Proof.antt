@@ -1,4 +1,4 @@
--- The proof of `service::answers::number`.
+-- The proof of `events::answers::number`.
 -- Assumes nothing.
 use borrow.Author.Needs.{needs}
 use Rattle.events.proofs.answers.number.Statement.{statement}

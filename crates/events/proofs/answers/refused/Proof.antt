@@ -1,4 +1,4 @@
--- The proof of `service::answers::refused`.
+-- The proof of `events::answers::refused`.
 -- Assumes nothing.
 use borrow.Author.Needs.{needs}
 use Rattle.events.proofs.answers.refused.Statement.{statement}

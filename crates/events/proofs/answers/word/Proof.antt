@@ -1,4 +1,4 @@
--- The proof of `service::answers::word`.
+-- The proof of `events::answers::word`.
 -- Assumes nothing.
 use borrow.Author.Needs.{needs}
 use Rattle.events.proofs.answers.word.Statement.{statement}

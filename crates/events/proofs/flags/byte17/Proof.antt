@@ -1,4 +1,4 @@
--- The proof of `service::flags::byte17`.
+-- The proof of `events::flags::byte17`.
 -- Assumes nothing.
 use Rattle.events.specs.Flags.{byte17Of}
 use borrow.Author.Needs.{needs}

@@ -1,4 +1,4 @@
--- The proof of `service::flags::byte18`.
+-- The proof of `events::flags::byte18`.
 -- Assumes nothing.
 use Rattle.events.specs.Flags.{byte18Of}
 use borrow.Author.Needs.{needs}

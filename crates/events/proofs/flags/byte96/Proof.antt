@@ -1,4 +1,4 @@
--- The proof of `service::flags::byte96`.
+-- The proof of `events::flags::byte96`.
 -- Assumes nothing.
 use Rattle.events.specs.Flags.{byte96Of}
 use borrow.Author.Needs.{needs}

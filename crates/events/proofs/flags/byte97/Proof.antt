@@ -1,4 +1,4 @@
--- The proof of `service::flags::byte97`.
+-- The proof of `events::flags::byte97`.
 -- Assumes nothing.
 use Rattle.events.specs.Flags.{byte97Of}
 use borrow.Author.Needs.{needs}

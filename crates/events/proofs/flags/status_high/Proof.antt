@@ -1,4 +1,4 @@
--- The proof of `service::flags::status_high`.
+-- The proof of `events::flags::status_high`.
 -- Assumes nothing.
 use Rattle.events.specs.Flags.{statusHigh}
 use borrow.Author.Needs.{needs}
