@@ -1,10 +1,10 @@
 // The line's events: polls, replies, time-outs and the restart.
 ghost use mathlib.Core.Path.{_≡_};
 ghost use Rattle.events.specs.Commands.{ledValue, lineAnswer, onLine, pollOf, acknowledgeOf, resendOf, timeOutOf, restartOf};
-use events::Answer;
+use answers::Answer;
 use events::Outcome;
-use events::Service;
 use port::Locks;
+use state::Service;
 
 fn led_value(locks: Locks) -> u8
     ensures { λ r. ⌜ r ≡ ledValue locks ⌝ }
@@ -40,7 +40,7 @@ fn apply(service: Service, outcome: line::Outcome, taken: Answer) -> Outcome
     let line = outcome.line;
     let answer = outcome.answer;
     let shown = answer_for(answer, taken);
-    let next = events::with_line(service, line);
+    let next = state::with_line(service, line);
     Outcome {
         service: next,
         answer: shown,
@@ -54,7 +54,7 @@ pub fn poll(service: Service) -> Outcome
 {
     let line = service.line;
     let led = led_value(service.shared.locks);
-    apply(service, line::poll(line, led), Answer::Taken)
+    apply(service, polling::poll(line, led), Answer::Taken)
 }
 
 // The reply FA.
@@ -62,7 +62,7 @@ pub fn acknowledge(service: Service) -> Outcome
     ensures { λ r. ⌜ r ≡ acknowledgeOf service ⌝ }
 {
     let line = service.line;
-    apply(service, line::acknowledge(line), Answer::Taken)
+    apply(service, replies::acknowledge(line), Answer::Taken)
 }
 
 // The reply FE.
@@ -70,7 +70,7 @@ pub fn resend(service: Service) -> Outcome
     ensures { λ r. ⌜ r ≡ resendOf service ⌝ }
 {
     let line = service.line;
-    apply(service, line::resend(line), Answer::Taken)
+    apply(service, replies::resend(line), Answer::Taken)
 }
 
 // A reply timed out.
@@ -78,14 +78,14 @@ pub fn time_out(service: Service) -> Outcome
     ensures { λ r. ⌜ r ≡ timeOutOf service ⌝ }
 {
     let line = service.line;
-    apply(service, line::time_out(line), Answer::Done)
+    apply(service, replies::time_out(line), Answer::Done)
 }
 
 // The line is restarted; the command that it drops shows no count.
 pub fn restart(service: Service) -> Outcome
     ensures { λ r. ⌜ r ≡ restartOf service ⌝ }
 {
-    let renewed = events::with_line(service, line::new());
+    let renewed = state::with_line(service, line::new());
     Outcome {
         service: renewed,
         answer: Answer::Done,

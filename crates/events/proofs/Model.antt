@@ -15,8 +15,8 @@ use Rattle.line.specs.State as line
 use Rattle.line.specs.Poll as poll
 use Rattle.line.specs.Reply as reply
 use Rattle.line.specs.Byte97 as byte97
-use Rattle.events.specs.State.{locksOf, newService}
-use Rattle.events.specs.Flags.{byte17Of, byte18Of, byte96Of, byte97Of, statusHigh}
+use Rattle.state.specs.State.{locksOf, newService}
+use Rattle.state.specs.Flags.{byte17Of, byte18Of, byte96Of, byte97Of, statusHigh}
 use Rattle.events.specs.Outcomes.{answeredOf}
 use Rattle.events.specs.Keyboard.{putOf, brokenOf, onEffect, typedOf, keyOf}
 use Rattle.events.specs.Commands.{ledValue, onLine, pollOf, acknowledgeOf, resendOf, timeOutOf, restartOf}

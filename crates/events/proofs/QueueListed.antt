@@ -22,13 +22,13 @@ use Rattle.queue.proofs.Laws.{at-most-fifteen, empty-holds-none, stays-whole, a
 use Rattle.line.specs.declared.Answer.{Answer as LineAnswer}
 use Rattle.line.specs.declared.Answer.the-variants as line-answer
 use Rattle.line.specs.declared.Outcome.{Outcome as LineOutcome}
-use Rattle.events.specs.declared.Service.{Service}
+use Rattle.state.specs.declared.Service.{Service}
 use Rattle.events.specs.declared.Event.{Event}
 use Rattle.events.specs.declared.Event.the-variants.{Key, Call, Poll, TimeOut, Empty, Restart}
-use Rattle.events.specs.declared.Answer.{Answer}
-use Rattle.events.specs.declared.Answer.the-variants.{Taken, Break, Done}
+use Rattle.answers.specs.declared.Answer.{Answer}
+use Rattle.answers.specs.declared.Answer.the-variants.{Taken, Break, Done}
 use Rattle.events.specs.declared.Outcome.{Outcome}
-use Rattle.events.specs.State.{newService}
+use Rattle.state.specs.State.{newService}
 use Rattle.events.specs.Outcomes.{answeredOf}
 use Rattle.events.specs.Keyboard.{putAnswer, putOf, brokenOf, onEffect, typedOf, keyOf}
 use Rattle.events.specs.Commands.{lineAnswer, onLine, pollOf, acknowledgeOf, resendOf, timeOutOf, restartOf}

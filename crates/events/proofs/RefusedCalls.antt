@@ -20,14 +20,14 @@ use Rattle.queue.specs.Queue as queue
 use Rattle.line.specs.declared.Answer.{Answer as LineAnswer}
 use Rattle.line.specs.declared.Answer.the-variants as line-answer
 use Rattle.line.specs.declared.Outcome.{Outcome as LineOutcome}
-use Rattle.events.specs.declared.Service.{Service}
+use Rattle.state.specs.declared.Service.{Service}
 use Rattle.events.specs.declared.Event.{Event}
 use Rattle.events.specs.declared.Event.the-variants.{Key, Call, Poll, TimeOut, Empty, Restart}
-use Rattle.events.specs.declared.Answer.{Answer}
-use Rattle.events.specs.declared.Answer.the-variants.{Taken, Done}
+use Rattle.answers.specs.declared.Answer.{Answer}
+use Rattle.answers.specs.declared.Answer.the-variants.{Taken, Done}
 use Rattle.events.specs.declared.Outcome.{Outcome}
-use Rattle.events.specs.State.{withQueue}
-use Rattle.events.specs.Answers.{ansOf}
+use Rattle.state.specs.State.{withQueue}
+use Rattle.answers.specs.Answers.{ansOf}
 use Rattle.events.specs.Outcomes.{answeredOf}
 use Rattle.events.specs.Keyboard.{putAnswer, putOf, brokenOf, onEffect, typedOf, keyOf}
 use Rattle.events.specs.Commands.{lineAnswer, onLine, pollOf, acknowledgeOf, resendOf, timeOutOf, restartOf}

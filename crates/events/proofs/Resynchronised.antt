@@ -19,11 +19,11 @@ use Rattle.port.specs.State.{newPort, withPrefix}
 use Rattle.port.specs.KeyByte.{keyByteOf}
 use Rattle.queue.specs.Queue.{emptyQueue}
 use Rattle.line.specs.State.{newLine}
-use Rattle.events.specs.declared.Service.{Service}
+use Rattle.state.specs.declared.Service.{Service}
 use Rattle.events.specs.declared.Event.{Event}
 use Rattle.events.specs.declared.Event.the-variants.{Key, Empty, Restart}
 use Rattle.events.specs.declared.Outcome.{Outcome}
-use Rattle.events.specs.State.{withLocks, newService, withPort, withQueue, withLine}
+use Rattle.state.specs.State.{withLocks, newService, withPort, withQueue, withLine}
 use Rattle.events.specs.Keyboard.{putOf, brokenOf, onEffect, typedOf, keyOf}
 use Rattle.events.specs.Outcomes.{answeredOf}
 use Rattle.events.specs.Step.{emptyOf, stepOf}

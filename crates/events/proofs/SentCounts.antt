@@ -27,14 +27,14 @@ use Rattle.line.specs.Inputs as input
 use Rattle.line.specs.Laws.{Within, sendsBy, Counts, CarriedIn}
 use Rattle.line.proofs.Within.{new-within, kept}
 use Rattle.line.proofs.Counts.{true-counts, sent-most}
-use Rattle.events.specs.declared.Service.{Service}
+use Rattle.state.specs.declared.Service.{Service}
 use Rattle.events.specs.declared.Event.{Event}
 use Rattle.events.specs.declared.Event.the-variants.{Key, Call, Poll, TimeOut, Empty, Restart}
-use Rattle.events.specs.declared.Answer.{Answer}
-use Rattle.events.specs.declared.Answer.the-variants.{Taken, Done}
+use Rattle.answers.specs.declared.Answer.{Answer}
+use Rattle.answers.specs.declared.Answer.the-variants.{Taken, Done}
 use Rattle.events.specs.declared.Outcome.{Outcome}
-use Rattle.events.specs.State.{newService}
-use Rattle.events.specs.Answers.{ansOf}
+use Rattle.state.specs.State.{newService}
+use Rattle.answers.specs.Answers.{ansOf}
 use Rattle.events.specs.Outcomes.{answeredOf}
 use Rattle.events.specs.Keyboard.{putAnswer, putOf, brokenOf, onEffect, typedOf, keyOf}
 use Rattle.events.specs.Commands.{ledValue, lineAnswer, onLine, pollOf, acknowledgeOf, resendOf, timeOutOf, restartOf}

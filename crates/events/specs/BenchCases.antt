@@ -6,7 +6,7 @@ use mathlib.Core.List.{List, [], _∷_, _++_, map}
 use lib.ListN.{replicate}
 use Rattle.events.specs.declared.Event.{Event}
 use Rattle.events.specs.declared.Event.the-variants.{Key, Poll}
-use Rattle.events.specs.State.{newService}
+use Rattle.state.specs.State.{newService}
 use Rattle.events.specs.Run.{Shown, run}
 
 -- keyboard bytes from lock bits

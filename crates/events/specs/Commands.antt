@@ -10,11 +10,11 @@ use Rattle.line.specs.declared.Outcome.{Outcome as LineOutcome}
 use Rattle.line.specs.State.{newLine}
 use Rattle.line.specs.Poll as poll
 use Rattle.line.specs.Reply as reply
-use Rattle.events.specs.declared.Service.{Service}
-use Rattle.events.specs.declared.Answer.{Answer}
-use Rattle.events.specs.declared.Answer.the-variants.{Taken, Ignored, Done, Send, Quiet, GivenUp}
+use Rattle.state.specs.declared.Service.{Service}
+use Rattle.answers.specs.declared.Answer.{Answer}
+use Rattle.answers.specs.declared.Answer.the-variants.{Taken, Ignored, Done, Send, Quiet, GivenUp}
 use Rattle.events.specs.declared.Outcome.{Outcome}
-use Rattle.events.specs.State.{withLine}
+use Rattle.state.specs.State.{withLine}
 use Rattle.events.specs.Outcomes.{outcome}
 
 -- bits 0 to 2 are Scroll, Num, Caps

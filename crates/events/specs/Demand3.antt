@@ -3,11 +3,11 @@
 use Prim.Native.Nat.{ℕ, _/_, _≤_}
 use mathlib.Core.Path.{_≡_}
 use mathlib.Core.List.{List, [], _∷_, _++_, map}
-use Rattle.events.specs.declared.Service.{Service}
+use Rattle.state.specs.declared.Service.{Service}
 use Rattle.events.specs.declared.Event.{Event}
 use Rattle.events.specs.declared.Event.the-variants.{Key, Empty, Restart}
-use Rattle.events.specs.State.{newService}
-use Rattle.events.specs.Flags.{byte17Of}
+use Rattle.state.specs.State.{newService}
+use Rattle.state.specs.Flags.{byte17Of}
 use Rattle.events.specs.Run.{Shown, run, after}
 
 -- "The all-up run" of document 01, byte by byte

@@ -10,13 +10,13 @@ use Rattle.queue.specs.declared.Oldest.{Oldest}
 use Rattle.queue.specs.declared.Oldest.the-variants.{None, Is}
 use Rattle.queue.specs.Queue as queue
 use Rattle.line.specs.State.{waitRateOf}
-use Rattle.events.specs.declared.Service.{Service}
-use Rattle.events.specs.declared.Refusal.the-variants as refusal
-use Rattle.events.specs.declared.Answer.{Answer}
-use Rattle.events.specs.declared.Answer.the-variants.{Returned, NoWord, Status, Done, Stored, Refused}
+use Rattle.state.specs.declared.Service.{Service}
+use Rattle.answers.specs.declared.Refusal.the-variants as refusal
+use Rattle.answers.specs.declared.Answer.{Answer}
+use Rattle.answers.specs.declared.Answer.the-variants.{Returned, NoWord, Status, Done, Stored, Refused}
 use Rattle.events.specs.declared.Outcome.{Outcome}
-use Rattle.events.specs.State.{withQueue, withLine}
-use Rattle.events.specs.Flags.{byte17Of, statusHigh}
+use Rattle.state.specs.State.{withQueue, withLine}
+use Rattle.state.specs.Flags.{byte17Of, statusHigh}
 use Rattle.events.specs.Outcomes.{answeredOf}
 
 abbrev pub oldestAnswer : Oldest → Answer

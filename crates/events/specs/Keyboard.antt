@@ -10,11 +10,11 @@ use Rattle.port.specs.declared.Effect.{Effect}
 use Rattle.port.specs.declared.Effect.the-variants as effect
 use Rattle.port.specs.KeyByte.{keyByteOf}
 use Rattle.queue.specs.Queue as queue
-use Rattle.events.specs.declared.Service.{Service}
-use Rattle.events.specs.declared.Answer.{Answer}
-use Rattle.events.specs.declared.Answer.the-variants.{Nothing, Put, Dropped, Break, RestartAsked, Overrun}
+use Rattle.state.specs.declared.Service.{Service}
+use Rattle.answers.specs.declared.Answer.{Answer}
+use Rattle.answers.specs.declared.Answer.the-variants.{Nothing, Put, Dropped, Break, RestartAsked, Overrun}
 use Rattle.events.specs.declared.Outcome.{Outcome}
-use Rattle.events.specs.State.{withPort, withQueue}
+use Rattle.state.specs.State.{withPort, withQueue}
 use Rattle.events.specs.Outcomes.{answeredOf}
 use Rattle.events.specs.Commands.{acknowledgeOf, resendOf}
 

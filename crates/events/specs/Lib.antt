@@ -1,6 +1,3 @@
-pub mod State
-pub mod Flags
-pub mod Answers
 pub mod Outcomes
 pub mod Keyboard
 pub mod Functions

@@ -2,8 +2,8 @@
 -- Assumes nothing.
 use Prim.Native.Nat.{ℕ}
 use Rattle.line.specs.State.{sentOf}
-use Rattle.events.specs.declared.Service.{Service}
-use Rattle.events.specs.declared.Answer.{Answer}
+use Rattle.state.specs.declared.Service.{Service}
+use Rattle.answers.specs.declared.Answer.{Answer}
 use Rattle.events.specs.declared.Outcome.{Outcome}
 
 abbrev pub outcome : Service → Answer → ℕ → Outcome

@@ -2,11 +2,11 @@
 -- Assumes nothing.
 use Prim.Native.Nat.{ℕ}
 use mathlib.Core.List.{List, [], _∷_}
-use Rattle.events.specs.declared.Service.{Service}
+use Rattle.state.specs.declared.Service.{Service}
 use Rattle.events.specs.declared.Event.{Event}
 use Rattle.events.specs.declared.Outcome.{Outcome}
-use Rattle.events.specs.Flags.{byte17Of, byte18Of, byte96Of, byte97Of}
-use Rattle.events.specs.Answers.{ansOf, wordOf}
+use Rattle.state.specs.Flags.{byte17Of, byte18Of, byte96Of, byte97Of}
+use Rattle.answers.specs.Answers.{ansOf, wordOf}
 use Rattle.events.specs.Step.{stepOf}
 
 -- what is seen of an event: ans, word, the four flag bytes after it, and sent

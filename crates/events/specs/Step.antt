@@ -1,12 +1,12 @@
 -- One event.
 -- Assumes nothing.
 use Rattle.queue.specs.Queue.{emptyQueue}
-use Rattle.events.specs.declared.Service.{Service}
+use Rattle.state.specs.declared.Service.{Service}
 use Rattle.events.specs.declared.Event.{Event}
 use Rattle.events.specs.declared.Event.the-variants.{Key, Call, Poll, TimeOut, Empty, Restart}
-use Rattle.events.specs.declared.Answer.the-variants.{Done}
+use Rattle.answers.specs.declared.Answer.the-variants.{Done}
 use Rattle.events.specs.declared.Outcome.{Outcome}
-use Rattle.events.specs.State.{withQueue}
+use Rattle.state.specs.State.{withQueue}
 use Rattle.events.specs.Outcomes.{answeredOf}
 use Rattle.events.specs.Keyboard.{keyOf}
 use Rattle.events.specs.Functions.{callOf}

@@ -1,16 +1,16 @@
 // Int 16h: each function by its own handler, and `call`, which finds it.
 ghost use mathlib.Core.Path.{_≡_};
 ghost use Rattle.line.specs.State.{waitRateOf};
-ghost use Rattle.events.specs.declared.Answer.the-variants.{Done, Refused};
-ghost use Rattle.events.specs.State.{withLine};
+ghost use Rattle.answers.specs.declared.Answer.the-variants.{Done, Refused};
+ghost use Rattle.state.specs.State.{withLine};
 ghost use Rattle.events.specs.Outcomes.{answeredOf};
 ghost use Rattle.events.specs.Functions.{oldestAnswer, takeOf, lookOf, statusOf, setRateOf, storeAnswer, storeOf, callOf};
-use events::Answer;
+use answers::Answer;
+use answers::Refusal;
 use events::Outcome;
-use events::Refusal;
-use events::Service;
-use events::flags;
 use queue::Oldest;
+use state::Service;
+use state::flags;
 use word::Word;
 
 fn oldest_answer(oldest: Oldest) -> Answer
@@ -30,7 +30,7 @@ fn take(service: Service) -> Outcome
     let taken = queue::take(queue);
     let left = taken.queue;
     let oldest = taken.oldest;
-    events::answered(events::with_queue(service, left), oldest_answer(oldest))
+    events::answered(state::with_queue(service, left), oldest_answer(oldest))
 }
 
 // 01 and 11.
@@ -59,7 +59,7 @@ fn wait_rate(service: Service, rate: u8) -> Outcome
 {
     let line = service.line;
     let next = line::wait_rate(line, rate);
-    events::answered(events::with_line(service, next), Answer::Done)
+    events::answered(state::with_line(service, next), Answer::Done)
 }
 
 // 03: the delay is looked at before the rate.
@@ -92,7 +92,7 @@ fn store(service: Service, word: Word) -> Outcome
     let after = queue::put(queue, word);
     let left = after.queue;
     let answer = store_answer(after.stored, word);
-    events::answered(events::with_queue(service, left), answer)
+    events::answered(state::with_queue(service, left), answer)
 }
 
 // An int 16h call.

@@ -21,7 +21,7 @@ use Rattle.line.specs.declared.Setting.{Setting}
 use Rattle.line.specs.declared.Setting.the-variants.{None, Value}
 use Rattle.line.specs.declared.Line.{Line}
 use Rattle.line.specs.State.{newLine}
-use Rattle.events.specs.State.{locksOf, newService}
+use Rattle.state.specs.State.{locksOf, newService}
 use Rattle.image.specs.ImagePort.{flagOf, isSet, prefixNumber, prefixAt, portImage, portAt, sharedImage, sharedAt}
 use Rattle.image.specs.ImageQueue.{wordImage, wordAtImage, queueImage, queueAt}
 use Rattle.image.specs.ImageLine.{kindNumber, kindAt, settingImage, settingAt, commandImage, commandAt, phaseImage, phaseAt, lineImage, lineAt}

@@ -1,6 +1,6 @@
 -- The service as numbers only, for callers that know no enum, and the service that any such numbers mean.
 -- Assumes nothing.
-use Rattle.events.specs.declared.Service.{Service}
+use Rattle.state.specs.declared.Service.{Service}
 use Rattle.image.specs.declared.Image.{Image}
 use Rattle.image.specs.ImagePort.{portImage, portAt, sharedImage, sharedAt}
 use Rattle.image.specs.ImageQueue.{queueImage, queueAt}

@@ -3,8 +3,8 @@
 use mathlib.Core.Path.{_≡_}
 use lib.ListN.{replicate}
 use Rattle.queue.specs.Queue.{capacity}
-use Rattle.events.specs.declared.Service.{Service}
-use Rattle.events.specs.State.{newService}
+use Rattle.state.specs.declared.Service.{Service}
+use Rattle.state.specs.State.{newService}
 use Rattle.image.specs.declared.Image.{Image}
 use Rattle.image.specs.declared.SidesImage.{SidesImage}
 use Rattle.image.specs.Image.{imageOf, serviceOf}

@@ -2,7 +2,7 @@
 // comes back from its image. An image of zeros is a service newly made with no lock on.
 ghost use mathlib.Core.Path.{_≡_};
 ghost use Rattle.image.specs.Image.{imageOf, serviceOf};
-use events::Service;
+use state::Service;
 
 mod line_part;
 mod port_part;

@@ -1,13 +1,13 @@
 // A byte from the keyboard: a reply for the line, or a key for the port, whose effect then reaches the queue.
 ghost use mathlib.Core.Path.{_≡_};
-ghost use Rattle.events.specs.State.{withPort};
+ghost use Rattle.state.specs.State.{withPort};
 ghost use Rattle.events.specs.Keyboard.{putAnswer, putOf, brokenOf, onEffect, typedOf, keyOf};
-use events::Answer;
+use answers::Answer;
 use events::Outcome;
-use events::Service;
 use port::Effect;
 use port::Port;
 use port::Shared;
+use state::Service;
 use word::Word;
 
 fn with_port(service: Service, port: Port, shared: Shared) -> Service
@@ -40,7 +40,7 @@ fn put(service: Service, word: Word) -> Outcome
     let after = queue::put(queue, word);
     let left = after.queue;
     let answer = put_answer(after.stored, word);
-    events::answered(events::with_queue(service, left), answer)
+    events::answered(state::with_queue(service, left), answer)
 }
 
 // Step 8: the queue holds the word 0000 alone.
@@ -49,7 +49,7 @@ fn broken(service: Service) -> Outcome
 {
     let after = queue::put(queue::empty(), word::from_bytes(0, 0));
     let left = after.queue;
-    events::answered(events::with_queue(service, left), Answer::Break)
+    events::answered(state::with_queue(service, left), Answer::Break)
 }
 
 // What the port's effect does to the queue and answers.
@@ -71,7 +71,7 @@ fn typed(service: Service, byte: u8) -> Outcome
 {
     let port = service.port;
     let shared = service.shared;
-    let decoded = port::key_byte(port, shared, byte);
+    let decoded = decoder::key_byte(port, shared, byte);
     let next = decoded.port;
     let common = decoded.shared;
     let effect = decoded.effect;

@@ -7,14 +7,14 @@ use borrow.Author.Tests.{lt-ltb, le-ltb}
 use lib.Dec.{ltb}
 use Rattle.bits.specs.Choice.{if_then_else_}
 use Rattle.bits.proofs.Choice.{by-test}
-use Rattle.events.specs.declared.Service.{Service}
+use Rattle.state.specs.declared.Service.{Service}
 use Rattle.events.specs.declared.Event.{Event}
-use Rattle.events.specs.declared.Answer.{Answer}
-use Rattle.events.specs.declared.Refusal.{Refusal}
-use Rattle.events.specs.declared.Refusal.the-variants as refusal
-use Rattle.events.specs.declared.Answer.the-variants.{Refused}
-use Rattle.events.specs.State.{makeOf}
-use Rattle.events.specs.Answers.{ansOf}
+use Rattle.answers.specs.declared.Answer.{Answer}
+use Rattle.answers.specs.declared.Refusal.{Refusal}
+use Rattle.answers.specs.declared.Refusal.the-variants as refusal
+use Rattle.answers.specs.declared.Answer.the-variants.{Refused}
+use Rattle.state.specs.State.{makeOf}
+use Rattle.answers.specs.Answers.{ansOf}
 use Rattle.events.specs.Step.{stepOf}
 use Rattle.events.specs.Run.{shownOf, next, after}
 use Rattle.events.specs.Refused.{isRefusal}

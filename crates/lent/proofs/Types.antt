@@ -4,8 +4,8 @@ use mathlib.Core.Path.{refl}
 use mathlib.Core.List.{[]}
 use mir.Syntax.{Ty, tyNamed, w8}
 use denote.Struct.Laws as LL
-use Rattle.events.proofs.Service as Service
-use Rattle.events.proofs.Service.Laws as Service′
+use Rattle.state.proofs.Service as Service
+use Rattle.state.proofs.Service.Laws as Service′
 use Rattle.events.proofs.Event as Event
 use Rattle.events.proofs.Event.Laws as Event′
 use Rattle.lent.proofs.Reply as Reply

@@ -4,11 +4,11 @@ use Prim.Native.Nat.{ℕ}
 use mathlib.Core.List.{List}
 use lib.Dec.{eqb}
 use Rattle.bits.specs.Choice.{if_then_else_}
-use Rattle.events.specs.declared.Service.{Service}
+use Rattle.state.specs.declared.Service.{Service}
 use Rattle.events.specs.declared.Event.{Event}
 use Rattle.events.specs.declared.Outcome.{Outcome}
-use Rattle.events.specs.declared.Made.{Made}
-use Rattle.events.specs.State.{makeOf}
+use Rattle.state.specs.declared.Made.{Made}
+use Rattle.state.specs.State.{makeOf}
 use Rattle.events.specs.Keyboard.{keyOf}
 use Rattle.events.specs.Functions.{callOf}
 use Rattle.events.specs.Commands.{pollOf}

@@ -7,7 +7,7 @@ use crate::Stepped;
 use crate::Tried;
 use events::Event;
 use events::Outcome;
-use events::Service;
+use state::Service;
 
 // A refusal leaves the service as it was.
 pub fn make(service: Service, bits: u8) -> Tried

@@ -2,9 +2,9 @@
 ghost use mathlib.Core.Path.{_≡_};
 ghost use Rattle.report.specs.Reported.{bufferOf};
 ghost use Rattle.lent.specs.Lent.{madeIn, eventIn, keyIn, callIn, pollIn, reportedIn};
-use events::Answer;
+use answers::Answer;
 use events::Event;
-use events::Service;
+use state::Service;
 
 pub mod by_value;
 

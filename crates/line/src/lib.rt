@@ -1,13 +1,8 @@
-// The line to the keyboard: LED and rate commands, the replies to them, and three sends of each byte.
+// The line to the keyboard: its state, the definitions of its polls and replies, and what holds of them. Their code is in the crates above.
 // Every value of these types has a meaning, reached or not, so no call asks anything of its caller.
 ghost use mathlib.Core.Path.{_≡_};
 ghost use Rattle.line.specs.State.{newLine, waitRateOf, sentOf, unchangedOf, isLedOf, ledRunsOf};
-ghost use Rattle.line.specs.Poll.{pollOf};
-ghost use Rattle.line.specs.Reply.{acknowledgeOf, resendOf, timeOutOf};
 ghost use Rattle.line.specs.Byte97.{byte97Of};
-
-mod polling;
-mod replies;
 
 // ED with the lamps, or F3 with the repeat rate.
 pub enum Kind {
@@ -124,64 +119,15 @@ pub fn sent(line: Line) -> u8
 }
 
 // An answer that leaves the line as it is.
-fn unchanged(line: Line, answer: Answer) -> Outcome
+pub fn unchanged(line: Line, answer: Answer) -> Outcome
     ensures { λ r. ⌜ r ≡ unchangedOf line answer ⌝ }
 {
     let sent = sent(line);
     Outcome { line, answer, sent }
 }
 
-// A poll for a byte to send, with the LED value that stands now.
-pub fn poll(line: Line, led: u8) -> Outcome
-    ensures { λ r. ⌜ r ≡ pollOf line led ⌝ }
-{
-    let phase = line.phase;
-    match phase {
-        Phase::Idle => polling::idle_poll(line, led),
-        Phase::Awaiting(_) => unchanged(line, Answer::Quiet),
-        Phase::Ready(command) => polling::send(line, command),
-    }
-}
-
-// The reply FA.
-pub fn acknowledge(line: Line) -> Outcome
-    ensures { λ r. ⌜ r ≡ acknowledgeOf line ⌝ }
-{
-    let phase = line.phase;
-    match phase {
-        Phase::Idle => unchanged(line, Answer::Ignored),
-        Phase::Awaiting(command) => {
-            replies::acknowledged(replies::mark_acknowledged(line), command)
-        }
-        Phase::Ready(_) => unchanged(line, Answer::Ignored),
-    }
-}
-
-// The reply FE.
-pub fn resend(line: Line) -> Outcome
-    ensures { λ r. ⌜ r ≡ resendOf line ⌝ }
-{
-    let phase = line.phase;
-    match phase {
-        Phase::Idle => unchanged(line, Answer::Ignored),
-        Phase::Awaiting(command) => replies::failed(replies::mark_resend(line), command),
-        Phase::Ready(_) => unchanged(line, Answer::Ignored),
-    }
-}
-
-// No reply came in time.
-pub fn time_out(line: Line) -> Outcome
-    ensures { λ r. ⌜ r ≡ timeOutOf line ⌝ }
-{
-    let phase = line.phase;
-    match phase {
-        Phase::Idle => unchanged(line, Answer::Ignored),
-        Phase::Awaiting(command) => replies::failed(line, command),
-        Phase::Ready(_) => unchanged(line, Answer::Ignored),
-    }
-}
-
-fn is_led(command: Command) -> bool
+// Whether a command is a LED command.
+pub fn is_led(command: Command) -> bool
     ensures { λ r. ⌜ r ≡ isLedOf (command .kind) ⌝ }
 {
     let kind = command.kind;

@@ -17,8 +17,8 @@ use Rattle.port.specs.declared.Port.{Port}
 use Rattle.port.specs.declared.Shared.{Shared}
 use Rattle.port.specs.declared.Decoded.{Decoded}
 use Rattle.port.specs.declared.Effect.the-variants.{Nothing}
-use Rattle.port.specs.declared.alt_entry.Digit.{Digit}
-use Rattle.port.specs.declared.alt_entry.Digit.the-variants.{NoDigit, Is}
+use Rattle.port.specs.declared.Digit.{Digit}
+use Rattle.port.specs.declared.Digit.the-variants.{NoDigit, Is}
 use Rattle.port.specs.State.{eitherSide, withSum, resultOf}
 use Rattle.port.specs.Prefix.{readOf}
 use Rattle.port.specs.Flags.{bare, afterE0, tracked, modifiersAfter, flagsPort, flagsShared, flagsChanged}

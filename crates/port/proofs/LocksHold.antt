@@ -21,8 +21,8 @@ use Rattle.port.specs.declared.Reading.the-variants.{Overrun, Opens, Pau
 use Rattle.port.specs.declared.Port.{Port}
 use Rattle.port.specs.declared.Shared.{Shared}
 use Rattle.port.specs.declared.Effect.{Effect}
-use Rattle.port.specs.declared.alt_entry.Digit.{Digit}
-use Rattle.port.specs.declared.alt_entry.Digit.the-variants.{NoDigit, Is}
+use Rattle.port.specs.declared.Digit.{Digit}
+use Rattle.port.specs.declared.Digit.the-variants.{NoDigit, Is}
 use Rattle.port.specs.State.{eitherSide, withPrefix, withSum, resultOf}
 use Rattle.port.specs.Prefix.{opened, continued, readOf}
 use Rattle.port.specs.Flags.{toggled, bare, locksAfter, flagsChanged}

@@ -12,8 +12,8 @@ use Rattle.port.specs.declared.Shared.{Shared}
 use Rattle.port.specs.declared.Decoded.{Decoded}
 use Rattle.port.specs.declared.Effect.{Effect}
 use Rattle.port.specs.declared.Effect.the-variants.{Nothing, Put}
-use Rattle.port.specs.declared.alt_entry.Digit.{Digit}
-use Rattle.port.specs.declared.alt_entry.Digit.the-variants.{NoDigit, Is}
+use Rattle.port.specs.declared.Digit.{Digit}
+use Rattle.port.specs.declared.Digit.the-variants.{NoDigit, Is}
 use Rattle.port.specs.State.{resultOf, withSum}
 
 -- the codes of the digits 0 to 9

@@ -17,8 +17,8 @@ use Rattle.port.specs.declared.Locks.{Locks}
 use Rattle.port.specs.declared.Shared.{Shared}
 use Rattle.port.specs.declared.Decoded.{Decoded}
 use Rattle.port.specs.declared.Effect.the-variants.{Nothing, Put, Break, Restart}
-use Rattle.port.specs.declared.alt_entry.Digit.{Digit}
-use Rattle.port.specs.declared.alt_entry.Digit.the-variants.{NoDigit, Is}
+use Rattle.port.specs.declared.Digit.{Digit}
+use Rattle.port.specs.declared.Digit.the-variants.{NoDigit, Is}
 use Rattle.port.specs.State.{eitherSide, resultOf, withSum, withPaused}
 use Rattle.port.specs.AltEntry.{altDigit, sumAfter}
 

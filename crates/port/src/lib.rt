@@ -1,14 +1,8 @@
-// One keyboard port: steps 2 to 9 of document 01, by value. The replies FA and FE are taken out before a byte comes here.
+// One keyboard port: its state, the definitions of steps 2 to 9 of document 01, and what holds of every byte. The code of the steps is in the
+// crates above.
 ghost use mathlib.Core.Path.{_≡_};
-ghost use Rattle.port.specs.State.{eitherSide, newPort, withPrefix, withPaused, resultOf};
-ghost use Rattle.port.specs.KeyByte.{codeRead, keyByteOf};
-use rows::Entry;
+ghost use Rattle.port.specs.State.{eitherSide, newPort, withPrefix, withSum, withPaused, resultOf};
 use word::Word;
-
-mod alt_entry;
-mod flags;
-mod makes;
-mod prefixes;
 
 // What has been read of a prefix: nothing, E0, E1, E1 1D or E1 9D.
 pub enum Prefix {
@@ -90,6 +84,12 @@ pub enum Reading {
     Key(Code),
 }
 
+// The digit that a code enters with Alt down.
+pub enum Digit {
+    NoDigit,
+    Is(u8),
+}
+
 // Whether a modifier is down on either side.
 pub fn down(sides: Sides) -> bool
     ensures { λ r. ⌜ r ≡ eitherSide sides ⌝ }
@@ -128,7 +128,8 @@ pub fn new() -> Port
     }
 }
 
-fn result(port: Port, shared: Shared, effect: Effect) -> Decoded
+// What a byte leaves and asks.
+pub fn result(port: Port, shared: Shared, effect: Effect) -> Decoded
     ensures { λ r. ⌜ r ≡ resultOf port shared effect ⌝ }
 {
     Decoded {
@@ -138,7 +139,8 @@ fn result(port: Port, shared: Shared, effect: Effect) -> Decoded
     }
 }
 
-fn with_prefix(port: Port, prefix: Prefix) -> Port
+// The port with another prefix open.
+pub fn with_prefix(port: Port, prefix: Prefix) -> Port
     ensures { λ r. ⌜ r ≡ withPrefix port prefix ⌝ }
 {
     let modifiers = port.modifiers;
@@ -151,39 +153,20 @@ fn with_prefix(port: Port, prefix: Prefix) -> Port
     }
 }
 
-fn with_paused(shared: Shared, paused: bool) -> Shared
+// The port with another Alt sum.
+pub fn with_sum(port: Port, sum: u8) -> Port
+    ensures { λ r. ⌜ r ≡ withSum port sum ⌝ }
+{
+    let mut next = port;
+    next.sum = sum;
+    next
+}
+
+// Paused, or no longer.
+pub fn with_paused(shared: Shared, paused: bool) -> Shared
     ensures { λ r. ⌜ r ≡ withPaused shared paused ⌝ }
 {
     let mut next = shared;
     next.paused = paused;
     next
-}
-
-// Steps 4 to 9, with the prefix closed.
-fn code_read(port: Port, shared: Shared, code: Code) -> Decoded
-    ensures { λ r. ⌜ r ≡ codeRead port shared code ⌝ }
-{
-    let modifiers = port.modifiers;
-    let locks = shared.locks;
-    let entry = makes::entry_for(code, modifiers, locks);
-    match entry {
-        Entry::NoRow => flags::changed(port, shared, code),
-        Entry::NoWord => makes::made(port, shared, code, entry),
-        Entry::Has(_) => makes::made(port, shared, code, entry),
-    }
-}
-
-// A byte at the port, FA and FE apart.
-pub fn key_byte(port: Port, shared: Shared, byte: u8) -> Decoded
-    ensures { λ r. ⌜ r ≡ keyByteOf port shared byte ⌝ }
-{
-    let prefix = port.prefix;
-    let closed = with_prefix(port, Prefix::Closed);
-    match prefixes::read(prefix, byte) {
-        Reading::Overrun => result(closed, shared, Effect::Overrun),
-        Reading::Opens(next) => result(with_prefix(port, next), shared, Effect::Nothing),
-        Reading::Pauses => result(closed, with_paused(shared, true), Effect::Nothing),
-        Reading::PauseEnds => result(closed, shared, Effect::Nothing),
-        Reading::Key(code) => code_read(closed, shared, code),
-    }
 }

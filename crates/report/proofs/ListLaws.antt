@@ -3,7 +3,7 @@
 use mathlib.Core.Path.{_≡_, refl, ap}
 use mathlib.Core.List.{[], _∷_}
 use native.Mathlib.Omega.{arith}
-use Rattle.events.specs.State.{newService}
+use Rattle.state.specs.State.{newService}
 use Rattle.events.specs.Step.{stepOf}
 use Rattle.events.specs.Run.{Shown, shownOf, next, run, after}
 use Rattle.events.proofs.Resynchronised.{demand-3}

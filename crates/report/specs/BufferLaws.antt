@@ -4,12 +4,12 @@ use Prim.Native.Nat.{ℕ, _+_, _<_, _≤_}
 use mathlib.Core.Path.{_≡_}
 use mathlib.Core.List.{List}
 use lib.ListN.{length, take, drop}
-use Rattle.events.specs.declared.Service.{Service}
+use Rattle.state.specs.declared.Service.{Service}
 use Rattle.events.specs.declared.Event.{Event}
-use Rattle.events.specs.declared.Refusal.{Refusal}
-use Rattle.events.specs.declared.Answer.the-variants.{Refused}
-use Rattle.events.specs.Answers.{refusalNumber}
-use Rattle.events.specs.Flags.{byte17Of, byte18Of, byte96Of, byte97Of}
+use Rattle.answers.specs.declared.Refusal.{Refusal}
+use Rattle.answers.specs.declared.Answer.the-variants.{Refused}
+use Rattle.answers.specs.Answers.{refusalNumber}
+use Rattle.state.specs.Flags.{byte17Of, byte18Of, byte96Of, byte97Of}
 use Rattle.events.specs.Step.{stepOf}
 use Rattle.events.specs.Run.{next}
 use Rattle.report.specs.Text.{flagsLine, textOf}

@@ -4,7 +4,7 @@ use Prim.Native.Nat.{ℕ}
 use mathlib.Core.Path.{_≡_}
 use mathlib.Core.List.{List, [], _∷_, _++_}
 use Rattle.events.specs.declared.Event.the-variants.{Key}
-use Rattle.events.specs.State.{newService}
+use Rattle.state.specs.State.{newService}
 use Rattle.report.specs.Reported.{textsOf}
 
 abbrev pub ev=K : List ℕ

@@ -3,9 +3,9 @@
 use Prim.Native.Nat.{ℕ, _≤_}
 use mathlib.Core.Path.{_≡_}
 use mathlib.Core.List.{List, _++_}
-use Rattle.events.specs.declared.Service.{Service}
+use Rattle.state.specs.declared.Service.{Service}
 use Rattle.events.specs.declared.Event.{Event}
-use Rattle.events.specs.State.{newService}
+use Rattle.state.specs.State.{newService}
 use Rattle.events.specs.Step.{stepOf}
 use Rattle.events.specs.Run.{run, after}
 use Rattle.events.specs.Demand3.{resynchronisation, standingLocks}

@@ -6,7 +6,7 @@ use mathlib.Core.List.{List, [], _∷_, _++_}
 use lib.Dec.{ltb}
 use lib.ListN.{length, drop}
 use Rattle.bits.specs.Choice.{if_then_else_}
-use Rattle.events.specs.declared.Service.{Service}
+use Rattle.state.specs.declared.Service.{Service}
 use Rattle.events.specs.declared.Event.{Event}
 use Rattle.events.specs.Step.{stepOf}
 use Rattle.events.specs.Run.{next}

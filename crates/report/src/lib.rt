@@ -8,9 +8,8 @@ ghost use Rattle.report.specs.Text.{textOf};
 ghost use Rattle.report.specs.Reported.{refusalIn, reportedOf, bufferOf};
 use events::Event;
 use events::Outcome;
-use events::Service;
-use events::answers;
-use events::flags;
+use state::Service;
+use state::flags;
 
 // The length of every report.
 pub const LENGTH: usize = 44;

@@ -17,7 +17,7 @@ use Rattle.rows.specs.Printed.{printAt}
 use Rattle.rows.specs.Rows.{rows, rowAt}
 use Rattle.rows.specs.Column.{isLetter}
 use Rattle.rows.specs.Lookup.{entryAt}
-use Rattle.rows.specs.Layout.{ascending}
+use Rattle.rows.specs.Ascending.{ascending}
 use Rattle.rows.specs.Rules.{RowRules, asciiIn, isWhole}
 use Rattle.rows.proofs.Entries.{same, same-equal}
 

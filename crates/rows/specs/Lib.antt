@@ -2,5 +2,5 @@ pub mod Printed
 pub mod Rows
 pub mod Column
 pub mod Lookup
-pub mod Layout
+pub mod Ascending
 pub mod Rules

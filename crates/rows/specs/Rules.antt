@@ -16,7 +16,7 @@ use Rattle.rows.specs.Printed.{Print, none, low, whole, Row, printAt}
 use Rattle.rows.specs.Rows.{rows, rowAt}
 use Rattle.rows.specs.Column.{isLetter}
 use Rattle.rows.specs.Lookup.{entryAt}
-use Rattle.rows.specs.Layout.{ascending}
+use Rattle.rows.specs.Ascending.{ascending}
 
 -- each code of the list is above the one before it
 abbrev pub rising : ℕ → List Row → Bool

@@ -1,14 +1,14 @@
 // The service: newly made, and after one event of any kind. Every value of the types has a meaning, so no call asks anything.
 ghost use mathlib.Core.Path.{_≡_};
-ghost use Rattle.events.specs.State.{locksOf, newService, makeOf};
+ghost use Rattle.state.specs.State.{locksOf, newService, makeOf};
 ghost use Rattle.events.specs.Step.{emptyOf, stepOf};
-use events::Answer;
+use answers::Answer;
 use events::Event;
-use events::Made;
 use events::Outcome;
-use events::Service;
 use port::Locks;
 use port::Shared;
+use state::Made;
+use state::Service;
 
 fn locks_of(bits: u8) -> Locks
     ensures { λ r. ⌜ r ≡ locksOf bits ⌝ }
@@ -59,7 +59,7 @@ pub fn make(bits: u8) -> Made
 pub fn empty(service: Service) -> Outcome
     ensures { λ r. ⌜ r ≡ emptyOf service ⌝ }
 {
-    let next = events::with_queue(service, queue::empty());
+    let next = state::with_queue(service, queue::empty());
     events::answered(next, Answer::Done)
 }
 

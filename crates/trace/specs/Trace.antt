@@ -3,8 +3,8 @@
 use Prim.Native.Nat.{ℕ}
 use mathlib.Core.List.{List, [], _∷_, _++_}
 use lib.ListN.{length, drop}
-use Rattle.events.specs.declared.Service.{Service}
-use Rattle.events.specs.State.{newService}
+use Rattle.state.specs.declared.Service.{Service}
+use Rattle.state.specs.State.{newService}
 use Rattle.pack.specs.Parsing.{Parsed, parse}
 use Rattle.digits.specs.Digits.{digitOf, fourDigits}
 use Rattle.report.specs.Text.{lineEnd}

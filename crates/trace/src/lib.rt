@@ -3,14 +3,14 @@ ghost use mathlib.Core.Path.{_≡_};
 ghost use mathlib.Core.List.{_++_};
 ghost use Prim.Native.Nat.{_+_, _<_, _≤_};
 ghost use lib.ListN.{length, take, drop};
-ghost use Rattle.events.specs.State.{newService};
+ghost use Rattle.state.specs.State.{newService};
 ghost use Rattle.events.specs.Run.{next};
 ghost use Rattle.report.specs.Text.{textOf};
 ghost use Rattle.report.specs.Reported.{eventReport};
 ghost use Rattle.trace.specs.Trace.{closingOf, traceOf, tracedOf};
 use events::Event;
-use events::Service;
 use pack::Read;
+use state::Service;
 
 // Room for the reports of the most events that a pack can hold, one to a byte, and the closing lines.
 pub const LENGTH: usize = 1441811;

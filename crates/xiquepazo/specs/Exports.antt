@@ -6,13 +6,13 @@ use mathlib.Core.List.{List}
 use lib.Dec.{eqb, ltb}
 use Rattle.bits.specs.Choice.{if_then_else_}
 use Rattle.line.specs.State.{sentOf}
-use Rattle.events.specs.declared.Service.{Service}
+use Rattle.state.specs.declared.Service.{Service}
 use Rattle.events.specs.declared.Event.{Event}
 use Rattle.events.specs.declared.Event.the-variants.{Key, Call, Poll, TimeOut, Empty, Restart}
 use Rattle.events.specs.declared.Outcome.{Outcome}
-use Rattle.events.specs.State.{makeOf}
-use Rattle.events.specs.Flags.{byte17Of, byte18Of, byte96Of, byte97Of}
-use Rattle.events.specs.Answers.{ansOf, wordOf}
+use Rattle.state.specs.State.{makeOf}
+use Rattle.state.specs.Flags.{byte17Of, byte18Of, byte96Of, byte97Of}
+use Rattle.answers.specs.Answers.{ansOf, wordOf}
 use Rattle.events.specs.Step.{stepOf}
 use Rattle.report.specs.Reported.{reportedOf, bufferOf}
 use Rattle.image.specs.declared.Image.{Image}

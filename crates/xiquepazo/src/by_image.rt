@@ -3,10 +3,9 @@ ghost use mathlib.Core.Path.{_≡_};
 ghost use Rattle.xiquepazo.specs.Exports.{shownWith, shownOf, stepIn, unknownIn, recognised, triedIn, keyTo, callTo, pollTo, eventTo, makeTo, reportIn, writtenIn, reportTo, writtenTo, flagsTo};
 use events::Event;
 use events::Outcome;
-use events::Service;
-use events::answers;
-use events::flags;
 use image::Image;
+use state::Service;
+use state::flags;
 
 // What is seen of an event: its number, its word, the count of bytes sent, and the flag bytes after it.
 #[repr(C)]

@@ -1,7 +1,7 @@
 -- The proof of `service::locks_of`.
 -- Assumes nothing.
 use mathlib.Core.Path.{refl}
-use Rattle.events.specs.State.{locksOf}
+use Rattle.state.specs.State.{locksOf}
 use Rattle.service.proofs.locks_of.Statement.{statement}
 use Rattle.service.proofs.locks_of.Tie as tie
 

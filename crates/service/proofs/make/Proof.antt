@@ -2,7 +2,7 @@
 -- Assumes nothing.
 use borrow.Author.Tests.{le-ltb, lt-ltb}
 use Rattle.bits.specs.Choice.{if_then_else_}
-use Rattle.events.specs.State.{makeOf}
+use Rattle.state.specs.State.{makeOf}
 use borrow.Author.Needs.{needs}
 use Rattle.service.proofs.make.Statement.{statement}
 use Rattle.service.proofs.make.Tie as tie

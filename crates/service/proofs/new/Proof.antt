@@ -1,6 +1,6 @@
 -- The proof of `service::new`.
 -- Assumes nothing.
-use Rattle.events.specs.State.{newService}
+use Rattle.state.specs.State.{newService}
 use borrow.Author.Needs.{needs}
 use Rattle.service.proofs.new.Statement.{statement}
 use Rattle.service.proofs.new.Tie as tie

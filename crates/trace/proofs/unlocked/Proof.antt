@@ -1,6 +1,6 @@
 -- The proof of `trace::unlocked`.
 -- Assumes nothing.
-use Rattle.events.specs.State.{makeOf}
+use Rattle.state.specs.State.{makeOf}
 use Rattle.bits.specs.Choice.{if_then_else_}
 use borrow.Author.Needs.{needs}
 use Rattle.trace.proofs.unlocked.Statement.{statement}

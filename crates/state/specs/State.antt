@@ -1,0 +1,47 @@
+-- Document 01, "Service and events": how a service is made, and services with one part changed.
+-- Assumes nothing.
+use Prim.Native.Nat.{ℕ, _/_, _%_}
+use mathlib.Core.Bool.{false}
+use lib.Dec.{eqb, ltb}
+use Rattle.bits.specs.Choice.{if_then_else_}
+use Rattle.port.specs.declared.Port.{Port}
+use Rattle.port.specs.declared.Shared.{Shared}
+use Rattle.port.specs.declared.Locks.{Locks}
+use Rattle.port.specs.State.{newPort}
+use Rattle.queue.specs.declared.Queue.{Queue}
+use Rattle.queue.specs.Queue.{emptyQueue}
+use Rattle.line.specs.declared.Line.{Line}
+use Rattle.line.specs.State.{newLine}
+use Rattle.state.specs.declared.Service.{Service}
+use Rattle.state.specs.declared.Made.{Made}
+
+-- the lock bits: bit 0 Scroll, 1 Num, 2 Caps, 3 Insert
+unfoldable pub locksOf : ℕ → Locks
+locksOf bits =
+    record {
+      scroll = eqb (bits % 2) 1;
+      num = eqb (bits / 2 % 2) 1;
+      caps = eqb (bits / 4 % 2) 1;
+      insert = eqb (bits / 8 % 2) 1;
+    }
+
+-- all but the locks is clear, the queue empty, the line idle
+abbrev pub withLocks : Locks → Service
+withLocks locks = record { port = newPort; shared = record { locks = locks; paused = false }; queue = emptyQueue; line = newLine }
+
+unfoldable pub newService : ℕ → Service
+newService bits = withLocks (locksOf bits)
+
+-- refusal 1: lock bits above 15
+unfoldable pub makeOf : ℕ → Made
+makeOf bits =
+    if ltb 15 bits then record { refusal = 1; service = newService 0 } else record { refusal = 0; service = newService bits }
+
+abbrev pub withPort : Service → Port → Shared → Service
+withPort service port shared = record { port = port; shared = shared; queue = service .queue; line = service .line }
+
+abbrev pub withQueue : Service → Queue → Service
+withQueue service queue = record { port = service .port; shared = service .shared; queue = queue; line = service .line }
+
+abbrev pub withLine : Service → Line → Service
+withLine service line = record { port = service .port; shared = service .shared; queue = service .queue; line = line }

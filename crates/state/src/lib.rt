@@ -1,0 +1,41 @@
+// The state of the service, and how its flag bytes show it.
+ghost use mathlib.Core.Path.{_≡_};
+ghost use Rattle.state.specs.State.{withQueue, withLine};
+use line::Line;
+use port::Port;
+use port::Shared;
+use queue::Queue;
+
+pub mod flags;
+
+// The order of the fields is that in which a copy is cheapest; it means nothing.
+pub struct Service {
+    pub port: Port,
+    pub shared: Shared,
+    pub line: Line,
+    pub queue: Queue,
+}
+
+// A service made from lock bits. With refusal 1, for bits above 15, it is the service of bits 0.
+pub struct Made {
+    pub refusal: u8,
+    pub service: Service,
+}
+
+// The service with another queue.
+pub fn with_queue(service: Service, queue: Queue) -> Service
+    ensures { λ r. ⌜ r ≡ withQueue service queue ⌝ }
+{
+    let mut next = service;
+    next.queue = queue;
+    next
+}
+
+// The service with another line.
+pub fn with_line(service: Service, line: Line) -> Service
+    ensures { λ r. ⌜ r ≡ withLine service line ⌝ }
+{
+    let mut next = service;
+    next.line = line;
+    next
+}
