@@ -66,7 +66,7 @@ pub fn poll(service: Service) -> Stepped
 pub fn report(service: Service, event: Event, buffer: &mut [u8]) -> Tried
     ensures { λ r. ⌜ (r ≡ reportedIn service event (now (buffer .entry))) × (now (buffer .exit) ≡ bufferOf service event (now (buffer .entry))) ⌝ }
 {
-    let reported = report::report_event(service, event, buffer);
+    let reported = reporter::report_event(service, event, buffer);
     let after = reported.service;
     Tried {
         service: after,

@@ -172,7 +172,7 @@ pub fn make(image: Image, bits: u8) -> Refused
 fn reported(image: Image, event: Event, buffer: &mut [u8]) -> Refused
     ensures { λ r. ⌜ (r ≡ reportIn image event (now (buffer .entry))) × (now (buffer .exit) ≡ writtenIn image event (now (buffer .entry))) ⌝ }
 {
-    let told = report::report_event(image::service_of(image), event, buffer);
+    let told = reporter::report_event(image::service_of(image), event, buffer);
     let after = told.service;
     tried(image, told.refusal, after)
 }

@@ -1,10 +1,10 @@
--- The proof of `report::write`. A byte that is written leaves the buffer's length, so each place of the text is within it.
+-- The proof of `reporter::write`. A byte that is written leaves the buffer's length, so each place of the text is within it.
 -- Assumes nothing.
 use lib.ListN.{length-set}
 use Rattle.report.specs.Text.{textOf}
 use borrow.Author.Needs.{needs}
-use Rattle.report.proofs.write.Statement.{statement}
-use Rattle.report.proofs.write.Tie as tie
+use Rattle.reporter.proofs.write.Statement.{statement}
+use Rattle.reporter.proofs.write.Tie as tie
 
 returns : tie.Need-returns
 unfolding textOf

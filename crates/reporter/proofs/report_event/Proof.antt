@@ -1,14 +1,14 @@
--- The proof of `report::report_event`.
+-- The proof of `reporter::report_event`.
 -- Assumes nothing.
 use mathlib.Core.Path.{refl}
 use native.Mathlib.Omega.{arith}
 use lib.ListN.{length}
 use borrow.Author.Tests.{le-ltb, lt-ltb}
 use Rattle.bits.specs.Choice.{if_then_else_}
 use Rattle.report.specs.Reported.{reportLength, reportedOf, bufferOf}
 use borrow.Author.Needs.{needs}
-use Rattle.report.proofs.report_event.Statement.{statement}
-use Rattle.report.proofs.report_event.Tie as tie
+use Rattle.reporter.proofs.report_event.Statement.{statement}
+use Rattle.reporter.proofs.report_event.Tie as tie
 
 returns : tie.Need-returns
 unfolding reportedOf bufferOf if_then_else_
