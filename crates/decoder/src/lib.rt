@@ -34,7 +34,11 @@ pub fn key_byte(port: Port, shared: Shared, byte: u8) -> Decoded
     let closed = port::with_prefix(port, Prefix::Closed);
     match prefixes::read(prefix, byte) {
         Reading::Overrun => port::result(closed, shared, Effect::Overrun),
-        Reading::Opens(next) => port::result(port::with_prefix(port, next), shared, Effect::Nothing),
+        Reading::Opens(next) => port::result(
+            port::with_prefix(port, next),
+            shared,
+            Effect::Nothing,
+        ),
         Reading::Pauses => port::result(closed, port::with_paused(shared, true), Effect::Nothing),
         Reading::PauseEnds => port::result(closed, shared, Effect::Nothing),
         Reading::Key(code) => code_read(closed, shared, code),

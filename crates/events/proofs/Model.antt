@@ -17,10 +17,10 @@ use Rattle.line.specs.Reply as reply
 use Rattle.line.specs.Byte97 as byte97
 use Rattle.state.specs.State.{locksOf, newService}
 use Rattle.state.specs.Flags.{byte17Of, byte18Of, byte96Of, byte97Of, statusHigh}
-use Rattle.events.specs.Outcomes.{answeredOf}
-use Rattle.events.specs.Keyboard.{putOf, brokenOf, onEffect, typedOf, keyOf}
+use Rattle.events.specs.Outcomes.{answeredOf, offeredOf}
+use Rattle.events.specs.Keyboard.{brokenOf, onEffect, typedOf, keyOf}
 use Rattle.events.specs.Commands.{ledValue, onLine, pollOf, acknowledgeOf, resendOf, timeOutOf, restartOf}
-use Rattle.events.specs.Functions.{takeOf, lookOf, statusOf, setRateOf, storeOf, callOf}
+use Rattle.events.specs.Functions.{takeOf, lookOf, statusOf, setRateOf, callOf}
 use Rattle.events.specs.Step.{emptyOf, stepOf}
 
 unfoldable pub model : Unit {0}
@@ -34,6 +34,6 @@ unfolding if_then_else_ weightOf byteOf
     poll.startNextOf poll.idlePollOf poll.pollIn poll.pollOf
     reply.markAcknowledgedOf reply.markResendOf reply.markDoneOf reply.markAbandonedOf reply.endedOf reply.operandOf reply.acknowledgedOf
     reply.failedOf reply.replyIn reply.acknowledgeOf reply.resendOf reply.timeOutOf byte97.byte97Of
-    locksOf newService byte17Of byte18Of byte96Of byte97Of statusHigh answeredOf putOf brokenOf onEffect typedOf keyOf
-    ledValue onLine pollOf acknowledgeOf resendOf timeOutOf restartOf takeOf lookOf statusOf setRateOf storeOf callOf emptyOf stepOf
+    locksOf newService byte17Of byte18Of byte96Of byte97Of statusHigh answeredOf offeredOf brokenOf onEffect typedOf keyOf
+    ledValue onLine pollOf acknowledgeOf resendOf timeOutOf restartOf takeOf lookOf statusOf setRateOf callOf emptyOf stepOf
 model = tt

@@ -25,14 +25,15 @@ use Rattle.line.specs.declared.Outcome.{Outcome as LineOutcome}
 use Rattle.state.specs.declared.Service.{Service}
 use Rattle.events.specs.declared.Event.{Event}
 use Rattle.events.specs.declared.Event.the-variants.{Key, Call, Poll, TimeOut, Empty, Restart}
+use Rattle.answers.specs.declared.Refusal.the-variants as refusal
 use Rattle.answers.specs.declared.Answer.{Answer}
-use Rattle.answers.specs.declared.Answer.the-variants.{Taken, Break, Done}
+use Rattle.answers.specs.declared.Answer.the-variants.{Put, Dropped, Taken, Break, Done, Stored, Refused}
 use Rattle.events.specs.declared.Outcome.{Outcome}
 use Rattle.state.specs.State.{newService}
-use Rattle.events.specs.Outcomes.{answeredOf}
-use Rattle.events.specs.Keyboard.{putAnswer, putOf, brokenOf, onEffect, typedOf, keyOf}
+use Rattle.events.specs.Outcomes.{answeredOf, offeredOf}
+use Rattle.events.specs.Keyboard.{brokenOf, onEffect, typedOf, keyOf}
 use Rattle.events.specs.Commands.{lineAnswer, onLine, pollOf, acknowledgeOf, resendOf, timeOutOf, restartOf}
-use Rattle.events.specs.Functions.{oldestAnswer, storeAnswer, takeOf, lookOf, statusOf, setRateOf, storeOf, callOf}
+use Rattle.events.specs.Functions.{oldestAnswer, takeOf, lookOf, statusOf, setRateOf, storeOf, callOf}
 use Rattle.events.specs.Step.{emptyOf, stepOf}
 use Rattle.events.specs.Run.{next, after}
 use Rattle.events.specs.Queued.{removes, empties, wordsAfter, Fits, QueueAsListed, QueueAtMostFifteen}
@@ -103,10 +104,10 @@ broken-told event q =
     }
 
 effect-tells : (byte : ℕ) (service : Service) (e : Effect) → Whole (service .queue) → Tells (Key byte) (service .queue) (onEffect service e)
-unfolding onEffect answeredOf putOf brokenOf
+unfolding onEffect answeredOf offeredOf brokenOf if_then_else_
 effect-tells byte service effect.Nothing w = record { told = same (service .queue) w (record { words = λ _. refl; fits = λ _. tt }) }
 effect-tells byte service (effect.Put word) w =
-    record { told = put-told (Key byte) (λ stored. putAnswer stored word) (service .queue) word w (λ _. refl) (λ _. refl) (λ _ h. h) (λ _ h. h) }
+    record { told = put-told (Key byte) (λ stored. if stored then Put word else Dropped word) (service .queue) word w (λ _. refl) (λ _. refl) (λ _ h. h) (λ _ h. h) }
 effect-tells byte service effect.Break w = record { told = broken-told (Key byte) (service .queue) }
 effect-tells byte service effect.Restart w = record { told = same (service .queue) w (record { words = λ _. refl; fits = λ _. tt }) }
 effect-tells byte service effect.Overrun w = record { told = same (service .queue) w (record { words = λ _. refl; fits = λ _. tt }) }
@@ -183,11 +184,11 @@ unfolding answeredOf
 answered-tells event service answer q e w h = record { told = rw e (same q w h) }
 
 store-tells : (function a b : ℕ) (service : Service) (word : Word) → Whole (service .queue) → Tells (Call function a b) (service .queue) (storeOf service word)
-unfolding storeOf answeredOf
+unfolding offeredOf answeredOf if_then_else_
 store-tells function a b service word w =
     record {
       told =
-          put-told (Call function a b) (λ stored. storeAnswer stored word) (service .queue) word w (λ _. refl) (λ _. refl) (λ _ h. h) (λ _ h. h);
+          put-told (Call function a b) (λ stored. if stored then Stored word else Refused refusal.Full) (service .queue) word w (λ _. refl) (λ _. refl) (λ _ h. h) (λ _ h. h);
     }
 
 call-tells : (service : Service) (function a b : ℕ) → Whole (service .queue) → Tells (Call function a b) (service .queue) (callOf service function a b)

@@ -23,15 +23,16 @@ use Rattle.line.specs.declared.Outcome.{Outcome as LineOutcome}
 use Rattle.state.specs.declared.Service.{Service}
 use Rattle.events.specs.declared.Event.{Event}
 use Rattle.events.specs.declared.Event.the-variants.{Key, Call, Poll, TimeOut, Empty, Restart}
+use Rattle.answers.specs.declared.Refusal.the-variants as refusal
 use Rattle.answers.specs.declared.Answer.{Answer}
-use Rattle.answers.specs.declared.Answer.the-variants.{Taken, Done}
+use Rattle.answers.specs.declared.Answer.the-variants.{Taken, Done, Stored, Refused}
 use Rattle.events.specs.declared.Outcome.{Outcome}
 use Rattle.state.specs.State.{withQueue}
 use Rattle.answers.specs.Answers.{ansOf}
-use Rattle.events.specs.Outcomes.{answeredOf}
-use Rattle.events.specs.Keyboard.{putAnswer, putOf, brokenOf, onEffect, typedOf, keyOf}
+use Rattle.events.specs.Outcomes.{answeredOf, offeredOf}
+use Rattle.events.specs.Keyboard.{brokenOf, onEffect, typedOf, keyOf}
 use Rattle.events.specs.Commands.{lineAnswer, onLine, pollOf, acknowledgeOf, resendOf, timeOutOf, restartOf}
-use Rattle.events.specs.Functions.{oldestAnswer, storeAnswer, takeOf, lookOf, statusOf, setRateOf, storeOf, callOf}
+use Rattle.events.specs.Functions.{oldestAnswer, takeOf, lookOf, statusOf, setRateOf, callOf}
 use Rattle.events.specs.Step.{emptyOf, stepOf}
 use Rattle.events.specs.Run.{shownOf, next, run, after}
 use Rattle.events.specs.Refused.{isRefusal, accepted, RefusedChangeNothing, RefusedCallsChangeNothing}
@@ -52,10 +53,6 @@ unchanged outcome e = record { kept = λ _. e }
 
 -- ---- the answers of keys and of the line
 
-accept-put : (stored : Bool) (word : Word) → Accepts (putAnswer stored word)
-accept-put true word = record { low = refl }
-accept-put false word = record { low = refl }
-
 accept-oldest : (oldest : Oldest) → Accepts (oldestAnswer oldest)
 accept-oldest None = record { low = refl }
 accept-oldest (Is word) = record { low = refl }
@@ -68,9 +65,9 @@ accept-line line-answer.Ignored taken h = record { low = refl }
 accept-line line-answer.GivenUp taken h = record { low = refl }
 
 effect-keeps : (service before : Service) (e : Effect) → Keeps before (onEffect service e)
-unfolding onEffect answeredOf putOf brokenOf
+unfolding onEffect answeredOf offeredOf brokenOf
 effect-keeps service before effect.Nothing = accepting (record { low = refl })
-effect-keeps service before (effect.Put word) = accepting (accept-put (queue.putOf (service .queue) word .stored) word)
+effect-keeps service before (effect.Put word) = accepting (either Accepts _ _ _ (record { low = refl }) (record { low = refl }))
 effect-keeps service before effect.Break = accepting (record { low = refl })
 effect-keeps service before effect.Restart = accepting (record { low = refl })
 effect-keeps service before effect.Overrun = accepting (record { low = refl })
@@ -109,13 +106,13 @@ put-unstored q word =
     either (Unstored q) _ _ _ (record { kept = λ e. absurd (true≢false e) }) (record { kept = λ _. refl })
 
 store-keeps : (service : Service) (word : Word) (after : AfterPut) → Unstored (service .queue) after
-    → (stored : Bool) → after .stored ≡ stored → Keeps service (answeredOf (withQueue service (after .queue)) (storeAnswer (after .stored) word))
-unfolding answeredOf
+    → (stored : Bool) → after .stored ≡ stored → Keeps service (answeredOf (withQueue service (after .queue)) (if after .stored then Stored word else Refused refusal.Full))
+unfolding answeredOf if_then_else_
 store-keeps service word after h true e = record { kept = λ r. absurd (true≢false (sym r ∙ simp e)) }
 store-keeps service word after h false e = record { kept = λ _. ap (withQueue service) (h .kept e) }
 
 call-keeps : (service : Service) (function a b : ℕ) → Keeps service (callOf service function a b)
-unfolding callOf takeOf lookOf statusOf setRateOf storeOf answeredOf
+unfolding callOf takeOf lookOf statusOf setRateOf offeredOf answeredOf
 call-keeps service function a b =
     either (Keeps service) _ _ _ (accepting (accept-oldest (queue.takeOf (service .queue) .oldest)))
     (either (Keeps service) _ _ _ (accepting (accept-oldest (queue.oldestOf (service .queue))))

@@ -24,8 +24,8 @@ use Rattle.events.specs.declared.Event.{Event}
 use Rattle.events.specs.declared.Event.the-variants.{Key, Empty, Restart}
 use Rattle.events.specs.declared.Outcome.{Outcome}
 use Rattle.state.specs.State.{withLocks, newService, withPort, withQueue, withLine}
-use Rattle.events.specs.Keyboard.{putOf, brokenOf, onEffect, typedOf, keyOf}
-use Rattle.events.specs.Outcomes.{answeredOf}
+use Rattle.events.specs.Keyboard.{brokenOf, onEffect, typedOf, keyOf}
+use Rattle.events.specs.Outcomes.{answeredOf, offeredOf}
 use Rattle.events.specs.Step.{emptyOf, stepOf}
 use Rattle.events.specs.Commands.{restartOf}
 use Rattle.events.specs.Run.{next, run, after}
@@ -107,7 +107,7 @@ abbrev withKeys : Service → Keys → Service
 withKeys service keys = withPort service (keys .port) (keys .shared)
 
 effect-queues : (service : Service) (e : Effect) → unqueued (onEffect service e .service) ≡ unqueued service
-unfolding onEffect answeredOf putOf brokenOf
+unfolding onEffect answeredOf offeredOf brokenOf
 effect-queues service effect.Nothing = refl
 effect-queues service (effect.Put word) = refl
 effect-queues service effect.Break = refl

@@ -35,10 +35,10 @@ use Rattle.answers.specs.declared.Answer.the-variants.{Taken, Done}
 use Rattle.events.specs.declared.Outcome.{Outcome}
 use Rattle.state.specs.State.{newService}
 use Rattle.answers.specs.Answers.{ansOf}
-use Rattle.events.specs.Outcomes.{answeredOf}
-use Rattle.events.specs.Keyboard.{putAnswer, putOf, brokenOf, onEffect, typedOf, keyOf}
+use Rattle.events.specs.Outcomes.{answeredOf, offeredOf}
+use Rattle.events.specs.Keyboard.{brokenOf, onEffect, typedOf, keyOf}
 use Rattle.events.specs.Commands.{ledValue, lineAnswer, onLine, pollOf, acknowledgeOf, resendOf, timeOutOf, restartOf}
-use Rattle.events.specs.Functions.{oldestAnswer, storeAnswer, takeOf, lookOf, statusOf, setRateOf, storeOf, callOf}
+use Rattle.events.specs.Functions.{oldestAnswer, takeOf, lookOf, statusOf, setRateOf, callOf}
 use Rattle.events.specs.Step.{emptyOf, stepOf}
 use Rattle.events.specs.Run.{Shown, shownOf, next, run, after}
 use Rattle.events.specs.Sent.{bytesShown, countAt, carriedOn, countsOf, SentIsCounted, SentAtMostSix, ThreeSendsEach}
@@ -132,23 +132,15 @@ answered-right before service answer e w h =
       within = rw e w;
     }
 
-silent-put : (stored : Bool) (word : Word) → Silent (putAnswer stored word)
-silent-put true word = record { silent = refl }
-silent-put false word = record { silent = refl }
-
 silent-oldest : (oldest : Oldest) → Silent (oldestAnswer oldest)
 silent-oldest None = record { silent = refl }
 silent-oldest (Is word) = record { silent = refl }
 
-silent-store : (stored : Bool) (word : Word) → Silent (storeAnswer stored word)
-silent-store true word = record { silent = refl }
-silent-store false word = record { silent = refl }
-
 effect-right : (before service : Service) (e : Effect) → service .line ≡ before .line → Within (before .line) → Right before (onEffect service e)
-unfolding onEffect putOf brokenOf
+unfolding onEffect offeredOf brokenOf
 effect-right before service effect.Nothing e w = answered-right before service _ (ap (λ (l : Line). l .phase) e) w (record { silent = refl })
 effect-right before service (effect.Put word) e w =
-    answered-right before _ _ (ap (λ (l : Line). l .phase) e) w (silent-put (queue.putOf (service .queue) word .stored) word)
+    answered-right before _ _ (ap (λ (l : Line). l .phase) e) w (either Silent _ _ _ (record { silent = refl }) (record { silent = refl }))
 effect-right before service effect.Break e w = answered-right before _ _ (ap (λ (l : Line). l .phase) e) w (record { silent = refl })
 effect-right before service effect.Restart e w = answered-right before service _ (ap (λ (l : Line). l .phase) e) w (record { silent = refl })
 effect-right before service effect.Overrun e w = answered-right before service _ (ap (λ (l : Line). l .phase) e) w (record { silent = refl })
@@ -164,7 +156,7 @@ key-right service byte w =
     (either (Right service) _ _ _ (resend-right service w) (typed-right service byte w))
 
 call-right : (service : Service) (function a b : ℕ) → Within (service .line) → Right service (callOf service function a b)
-unfolding callOf takeOf lookOf statusOf setRateOf storeOf waitRateOf
+unfolding callOf takeOf lookOf statusOf setRateOf offeredOf waitRateOf
 call-right service function a b w =
     either (Right service) _ _ _ (answered-right service _ _ refl w (silent-oldest (queue.takeOf (service .queue) .oldest)))
     (either (Right service) _ _ _ (answered-right service _ _ refl w (silent-oldest (queue.oldestOf (service .queue))))
@@ -173,7 +165,7 @@ call-right service function a b w =
     (either (Right service) _ _ _
     (either (Right service) _ _ _ (answered-right service _ _ refl w (record { silent = refl }))
     (either (Right service) _ _ _ (answered-right service _ _ refl w (record { silent = refl })) (answered-right service _ _ refl w (record { silent = refl }))))
-    (either (Right service) _ _ _ (answered-right service _ _ refl w (silent-store (queue.putOf (service .queue) (wordAt a b) .stored) (wordAt a b)))
+    (either (Right service) _ _ _ (answered-right service _ _ refl w (either Silent _ _ _ (record { silent = refl }) (record { silent = refl })))
     (answered-right service _ _ refl w (record { silent = refl })))))))
 
 -- ---- every event

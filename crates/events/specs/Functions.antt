@@ -1,7 +1,7 @@
 -- Document 01, "Functions", with refusals 2 to 5.
 -- Assumes nothing.
 use Prim.Native.Nat.{ℕ, _+_, _*_}
-use mathlib.Core.Bool.{Bool, true, false, _||_}
+use mathlib.Core.Bool.{_||_}
 use lib.Dec.{eqb, ltb}
 use Rattle.bits.specs.Choice.{if_then_else_}
 use Rattle.word.specs.declared.Word.{Word}
@@ -17,7 +17,7 @@ use Rattle.answers.specs.declared.Answer.the-variants.{Returned, NoWord, Status
 use Rattle.events.specs.declared.Outcome.{Outcome}
 use Rattle.state.specs.State.{withQueue, withLine}
 use Rattle.state.specs.Flags.{byte17Of, statusHigh}
-use Rattle.events.specs.Outcomes.{answeredOf}
+use Rattle.events.specs.Outcomes.{answeredOf, offeredOf}
 
 abbrev pub oldestAnswer : Oldest → Answer
 oldestAnswer None = NoWord
@@ -44,15 +44,9 @@ setRateOf service delay rate =
     else if ltb 31 rate then answeredOf service (Refused refusal.Rate)
     else answeredOf (withLine service (waitRateOf (service .line) (32 * delay + rate))) Done
 
-abbrev pub storeAnswer : Bool → Word → Answer
-storeAnswer true word = Stored word
-storeAnswer false word = Refused refusal.Full
-
 -- 05: the word is put, refusal 5 on a full queue
-unfoldable pub storeOf : Service → Word → Outcome
-storeOf service word =
-    let after = queue.putOf (service .queue) word in
-    answeredOf (withQueue service (after .queue)) (storeAnswer (after .stored) word)
+abbrev pub storeOf : Service → Word → Outcome
+storeOf service word = offeredOf service word (Stored word) (Refused refusal.Full)
 
 -- refusal 2: a function that is not listed
 unfoldable pub callOf : Service → ℕ → ℕ → ℕ → Outcome

@@ -1,7 +1,6 @@
 -- Document 01, "Keyboard bytes": step 1, and what the port's effect does to the queue.
 -- Assumes nothing.
 use Prim.Native.Nat.{ℕ}
-use mathlib.Core.Bool.{Bool, true, false}
 use lib.Dec.{eqb}
 use Rattle.bits.specs.Choice.{if_then_else_}
 use Rattle.word.specs.declared.Word.{Word}
@@ -11,22 +10,15 @@ use Rattle.port.specs.declared.Effect.the-variants as effect
 use Rattle.port.specs.KeyByte.{keyByteOf}
 use Rattle.queue.specs.Queue as queue
 use Rattle.state.specs.declared.Service.{Service}
-use Rattle.answers.specs.declared.Answer.{Answer}
 use Rattle.answers.specs.declared.Answer.the-variants.{Nothing, Put, Dropped, Break, RestartAsked, Overrun}
 use Rattle.events.specs.declared.Outcome.{Outcome}
 use Rattle.state.specs.State.{withPort, withQueue}
-use Rattle.events.specs.Outcomes.{answeredOf}
+use Rattle.events.specs.Outcomes.{answeredOf, offeredOf}
 use Rattle.events.specs.Commands.{acknowledgeOf, resendOf}
 
-abbrev pub putAnswer : Bool → Word → Answer
-putAnswer true word = Put word
-putAnswer false word = Dropped word
-
 -- a word put, or dropped where the queue is full; either way it is shown
-unfoldable pub putOf : Service → Word → Outcome
-putOf service word =
-    let after = queue.putOf (service .queue) word in
-    answeredOf (withQueue service (after .queue)) (putAnswer (after .stored) word)
+abbrev pub putOf : Service → Word → Outcome
+putOf service word = offeredOf service word (Put word) (Dropped word)
 
 -- break: the queue is emptied and the word 0000 put
 unfoldable pub brokenOf : Service → Outcome

@@ -1,6 +1,4 @@
 // The six events: their definitions, and what follows from them over lists. Their code is in the crates above.
-ghost use mathlib.Core.Path.{_≡_};
-ghost use Rattle.events.specs.Outcomes.{answeredOf};
 use answers::Answer;
 use state::Service;
 
@@ -19,17 +17,4 @@ pub struct Outcome {
     pub service: Service,
     pub answer: Answer,
     pub sent: u8,
-}
-
-// An event that leaves the line's command alone: its count goes on being shown.
-pub fn answered(service: Service, answer: Answer) -> Outcome
-    ensures { λ r. ⌜ r ≡ answeredOf service answer ⌝ }
-{
-    let line = service.line;
-    let sent = line::sent(line);
-    Outcome {
-        service,
-        answer,
-        sent,
-    }
 }

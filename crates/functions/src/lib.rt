@@ -4,7 +4,7 @@ ghost use Rattle.line.specs.State.{waitRateOf};
 ghost use Rattle.answers.specs.declared.Answer.the-variants.{Done, Refused};
 ghost use Rattle.state.specs.State.{withLine};
 ghost use Rattle.events.specs.Outcomes.{answeredOf};
-ghost use Rattle.events.specs.Functions.{oldestAnswer, takeOf, lookOf, statusOf, setRateOf, storeAnswer, storeOf, callOf};
+ghost use Rattle.events.specs.Functions.{oldestAnswer, takeOf, lookOf, statusOf, setRateOf, storeOf, callOf};
 use answers::Answer;
 use answers::Refusal;
 use events::Outcome;
@@ -30,7 +30,7 @@ fn take(service: Service) -> Outcome
     let taken = queue::take(queue);
     let left = taken.queue;
     let oldest = taken.oldest;
-    events::answered(state::with_queue(service, left), oldest_answer(oldest))
+    outcomes::answered(state::with_queue(service, left), oldest_answer(oldest))
 }
 
 // 01 and 11.
@@ -38,20 +38,20 @@ fn look(service: Service) -> Outcome
     ensures { λ r. ⌜ r ≡ lookOf service ⌝ }
 {
     let queue = service.queue;
-    events::answered(service, oldest_answer(queue::first(queue)))
+    outcomes::answered(service, oldest_answer(queue::first(queue)))
 }
 
 // 02 and 12: a status of two bytes.
 fn status(service: Service, high: u8, low: u8) -> Outcome
     ensures { λ r. ⌜ r ≡ statusOf service high low ⌝ }
 {
-    events::answered(service, Answer::Status((high as u16) * 256 + (low as u16)))
+    outcomes::answered(service, Answer::Status((high as u16) * 256 + (low as u16)))
 }
 
 fn refused(service: Service, refusal: Refusal) -> Outcome
     ensures { λ r. ⌜ r ≡ answeredOf service (Refused refusal) ⌝ }
 {
-    events::answered(service, Answer::Refused(refusal))
+    outcomes::answered(service, Answer::Refused(refusal))
 }
 
 fn wait_rate(service: Service, rate: u8) -> Outcome
@@ -59,7 +59,7 @@ fn wait_rate(service: Service, rate: u8) -> Outcome
 {
     let line = service.line;
     let next = line::wait_rate(line, rate);
-    events::answered(state::with_line(service, next), Answer::Done)
+    outcomes::answered(state::with_line(service, next), Answer::Done)
 }
 
 // 03: the delay is looked at before the rate.
@@ -75,24 +75,16 @@ fn set_rate(service: Service, delay: u8, rate: u8) -> Outcome
     wait_rate(service, 32 * delay + rate)
 }
 
-fn store_answer(stored: bool, word: Word) -> Answer
-    ensures { λ r. ⌜ r ≡ storeAnswer stored word ⌝ }
-{
-    if stored {
-        return Answer::Stored(word);
-    }
-    Answer::Refused(Refusal::Full)
-}
-
 // 05: a put to a full queue leaves it as it is.
 fn store(service: Service, word: Word) -> Outcome
     ensures { λ r. ⌜ r ≡ storeOf service word ⌝ }
 {
-    let queue = service.queue;
-    let after = queue::put(queue, word);
-    let left = after.queue;
-    let answer = store_answer(after.stored, word);
-    events::answered(state::with_queue(service, left), answer)
+    outcomes::offered(
+        service,
+        word,
+        Answer::Stored(word),
+        Answer::Refused(Refusal::Full),
+    )
 }
 
 // An int 16h call.

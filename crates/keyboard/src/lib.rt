@@ -1,7 +1,7 @@
 // A byte from the keyboard: a reply for the line, or a key for the port, whose effect then reaches the queue.
 ghost use mathlib.Core.Path.{_≡_};
 ghost use Rattle.state.specs.State.{withPort};
-ghost use Rattle.events.specs.Keyboard.{putAnswer, putOf, brokenOf, onEffect, typedOf, keyOf};
+ghost use Rattle.events.specs.Keyboard.{putOf, brokenOf, onEffect, typedOf, keyOf};
 use answers::Answer;
 use events::Outcome;
 use port::Effect;
@@ -23,24 +23,11 @@ fn with_port(service: Service, port: Port, shared: Shared) -> Service
     }
 }
 
-fn put_answer(stored: bool, word: Word) -> Answer
-    ensures { λ r. ⌜ r ≡ putAnswer stored word ⌝ }
-{
-    if stored {
-        return Answer::Put(word);
-    }
-    Answer::Dropped(word)
-}
-
 // A word is put, or dropped where the queue is full.
 fn put(service: Service, word: Word) -> Outcome
     ensures { λ r. ⌜ r ≡ putOf service word ⌝ }
 {
-    let queue = service.queue;
-    let after = queue::put(queue, word);
-    let left = after.queue;
-    let answer = put_answer(after.stored, word);
-    events::answered(state::with_queue(service, left), answer)
+    outcomes::offered(service, word, Answer::Put(word), Answer::Dropped(word))
 }
 
 // Step 8: the queue holds the word 0000 alone.
@@ -49,7 +36,7 @@ fn broken(service: Service) -> Outcome
 {
     let after = queue::put(queue::empty(), word::from_bytes(0, 0));
     let left = after.queue;
-    events::answered(state::with_queue(service, left), Answer::Break)
+    outcomes::answered(state::with_queue(service, left), Answer::Break)
 }
 
 // What the port's effect does to the queue and answers.
@@ -57,11 +44,11 @@ fn apply(service: Service, effect: Effect) -> Outcome
     ensures { λ r. ⌜ r ≡ onEffect service effect ⌝ }
 {
     match effect {
-        Effect::Nothing => events::answered(service, Answer::Nothing),
+        Effect::Nothing => outcomes::answered(service, Answer::Nothing),
         Effect::Put(word) => put(service, word),
         Effect::Break => broken(service),
-        Effect::Restart => events::answered(service, Answer::RestartAsked),
-        Effect::Overrun => events::answered(service, Answer::Overrun),
+        Effect::Restart => outcomes::answered(service, Answer::RestartAsked),
+        Effect::Overrun => outcomes::answered(service, Answer::Overrun),
     }
 }
 

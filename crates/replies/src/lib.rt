@@ -153,9 +153,7 @@ pub fn acknowledge(line: Line) -> Outcome
     let phase = line.phase;
     match phase {
         Phase::Idle => line::unchanged(line, Answer::Ignored),
-        Phase::Awaiting(command) => {
-            acknowledged(mark_acknowledged(line), command)
-        }
+        Phase::Awaiting(command) => { acknowledged(mark_acknowledged(line), command) }
         Phase::Ready(_) => line::unchanged(line, Answer::Ignored),
     }
 }

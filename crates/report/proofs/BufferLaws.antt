@@ -20,25 +20,30 @@ use Rattle.events.specs.Step.{stepOf}
 use Rattle.events.specs.Run.{shownOf, next}
 use Rattle.events.specs.Refused.{isRefusal}
 use Rattle.events.proofs.RefusedCalls.{refused-calls-change-nothing}
+use Rattle.report.specs.declared.Report.{Report}
 use Rattle.report.specs.declared.Reported.{Reported}
 use Rattle.report.specs.Report.{reportOf}
 use Rattle.report.specs.Text.{textOf}
-use Rattle.report.specs.Reported.{reportLength, eventReport, refusalIn, tooShort, reportedOf, bufferOf}
+use Rattle.report.specs.Reported.{reportLength, eventReport, refusalIn, tooShort, reportedOf, writtenOf, bufferOf}
 use Rattle.report.specs.BufferLaws.{ShortRefused, LongWritten, NineIsShort, RefusedCallWritten, FlagsAfter}
 
 pub short-refused : ShortRefused
-unfolding reportedOf bufferOf if_then_else_
+unfolding reportedOf writtenOf bufferOf if_then_else_
 short-refused service event buffer short = let test = lt-ltb _ _ short in record { result = simp test; unwritten = simp test }
 
 -- the definitions on a buffer that is long enough
+pub long-kept : (report : Report) (buffer : List ℕ) → reportLength ≤ length buffer → writtenOf report buffer ≡ textOf report ++ drop reportLength buffer
+unfolding writtenOf if_then_else_
+long-kept report buffer long = simp (le-ltb (length buffer) reportLength long)
+
 module _ (service : Service) (event : Event) (buffer : List ℕ) (long : reportLength ≤ length buffer) where
   pub long-reported : reportedOf service event buffer ≡ record { refusal = refusalIn (eventReport service event .ans); service = next service event }
   unfolding reportedOf if_then_else_
   long-reported = simp (le-ltb (length buffer) reportLength long)
 
   pub long-buffer : bufferOf service event buffer ≡ textOf (eventReport service event) ++ drop reportLength buffer
-  unfolding bufferOf if_then_else_
-  long-buffer = simp (le-ltb (length buffer) reportLength long)
+  unfolding bufferOf
+  long-buffer = long-kept (eventReport service event) buffer long
 
 pub long-written : LongWritten
 unfolding textOf

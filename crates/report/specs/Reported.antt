@@ -37,11 +37,12 @@ reportedOf service event buffer =
     if tooShort buffer then record { refusal = 9; service = service }
     else record { refusal = refusalIn (eventReport service event .ans); service = next service event }
 
--- only 9 leaves the buffer unwritten; a longer one keeps its tail
+-- a report in a buffer: one that is too short is left, a longer one keeps its tail
+unfoldable pub writtenOf : Report → List ℕ → List ℕ
+writtenOf report buffer = if tooShort buffer then buffer else textOf report ++ drop reportLength buffer
+
 unfoldable pub bufferOf : Service → Event → List ℕ → List ℕ
-bufferOf service event buffer =
-    if tooShort buffer then buffer
-    else textOf (eventReport service event) ++ drop reportLength buffer
+bufferOf service event buffer = writtenOf (eventReport service event) buffer
 
 -- the texts of a list of events, each run on the service that the one before left
 abbrev pub textsOf : Service → List Event → List ℕ

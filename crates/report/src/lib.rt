@@ -7,6 +7,9 @@ use events::Outcome;
 use state::Service;
 use state::flags;
 
+// The length of every report.
+pub const LENGTH: usize = 44;
+
 // What the text of an event shows. The flag bytes are those after the event.
 pub struct Report {
     pub tag: u8,

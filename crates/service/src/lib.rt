@@ -60,7 +60,7 @@ pub fn empty(service: Service) -> Outcome
     ensures { λ r. ⌜ r ≡ emptyOf service ⌝ }
 {
     let next = state::with_queue(service, queue::empty());
-    events::answered(next, Answer::Done)
+    outcomes::answered(next, Answer::Done)
 }
 
 // One event.

@@ -5,13 +5,13 @@ use native.Mathlib.Omega.{arith}
 use lib.ListN.{length}
 use borrow.Author.Tests.{le-ltb, lt-ltb}
 use Rattle.bits.specs.Choice.{if_then_else_}
-use Rattle.report.specs.Reported.{reportLength, reportedOf, bufferOf}
+use Rattle.report.specs.Reported.{reportLength, reportedOf, writtenOf, bufferOf}
 use borrow.Author.Needs.{needs}
 use Rattle.reporter.proofs.report_event.Statement.{statement}
 use Rattle.reporter.proofs.report_event.Tie as tie
 
 returns : tie.Need-returns
-unfolding reportedOf bufferOf if_then_else_
+unfolding reportedOf writtenOf bufferOf if_then_else_
 returns c = simp (lt-ltb (length (c .before .before .args .buffer .now)) reportLength (omega arith)) (refl, refl)
 
 step-requires : tie.Need-step-requires
@@ -36,7 +36,7 @@ returns-2 c =
     let reported = written .before .before in
     let stepped = reported .before in
     let long = le-ltb (length (stepped .before .before .before .args .buffer .now)) reportLength (omega (arith, stepped .before .if1 .left)) in
-    (simp long (cc), simp (long, written .write .ensures, ← (reported .report-of .ensures), ← (stepped .step .ensures)))
+    (simp long (cc), simp (written .write .ensures, ← (reported .report-of .ensures), ← (stepped .step .ensures)))
 
 pub report-event-spec : {M : Type 1} → statement M
 report-event-spec = tie.close (tie.spec returns step-requires report-of-requires write-requires refusal-requires same-length returns-2)

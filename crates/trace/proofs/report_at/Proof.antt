@@ -6,7 +6,7 @@ use native.Mathlib.Omega.{arith}
 use lib.ListN.{length, drop, length-drop}
 use borrow.Author.Tests.{le-ltb}
 use Rattle.bits.specs.Choice.{if_then_else_}
-use Rattle.report.specs.Reported.{eventReport, reportedOf, bufferOf}
+use Rattle.report.specs.Reported.{eventReport, reportedOf, writtenOf, bufferOf}
 use Rattle.pack.proofs.Reading.{to-end}
 use borrow.Author.Needs.{needs}
 use Rattle.trace.proofs.report_at.Statement.{statement}
@@ -28,7 +28,7 @@ same-length : tie.Need-same-length
 same-length c = search needs
 
 returns : tie.Need-returns
-unfolding reportedOf bufferOf if_then_else_
+unfolding reportedOf writtenOf bufferOf if_then_else_
 returns c =
     let ran = c .before .before .before in
     let a = ran .before .before .before .args in

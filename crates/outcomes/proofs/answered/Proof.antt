@@ -1,9 +1,9 @@
--- The proof of `events::answered`.
+-- The proof of `outcomes::answered`.
 -- Assumes nothing.
 use Rattle.events.specs.Outcomes.{answeredOf}
 use borrow.Author.Needs.{needs}
-use Rattle.events.proofs.answered.Statement.{statement}
-use Rattle.events.proofs.answered.Tie as tie
+use Rattle.outcomes.proofs.answered.Statement.{statement}
+use Rattle.outcomes.proofs.answered.Tie as tie
 
 sent-requires : tie.Need-sent-requires
 sent-requires c κs = search needs

@@ -1,10 +1,10 @@
--- The proof of `reporter::write`. A byte that is written leaves the buffer's length, so each place of the text is within it.
+-- The proof of `text::fill`. A byte that is written leaves the buffer's length, so each place of the text is within it.
 -- Assumes nothing.
 use lib.ListN.{length-set}
 use Rattle.report.specs.Text.{textOf}
 use borrow.Author.Needs.{needs}
-use Rattle.reporter.proofs.write.Statement.{statement}
-use Rattle.reporter.proofs.write.Tie as tie
+use Rattle.text.proofs.fill.Statement.{statement}
+use Rattle.text.proofs.fill.Tie as tie
 
 returns : tie.Need-returns
 unfolding textOf
@@ -12,8 +12,8 @@ returns c =
     let copied = c .before .before .before .before .before .before .before .before .before .before .before .before .before .before .before .before .before in
     rw (copied .copy .ensures .1) (cc)
 
-pub write-spec : {M : Type 1} → statement M
-write-spec =
+pub fill-spec : {M : Type 1} → statement M
+fill-spec =
     tie.close
     (tie.spec
     (λ c κs. search needs) (λ c κs. search needs) (λ c. search needs) (λ c κs. search needs) (λ c. search needs)
