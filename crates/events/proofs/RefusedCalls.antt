@@ -5,6 +5,8 @@ use mathlib.Core.Path.{_≡_, refl, ap, sym, _∙_}
 use mathlib.Core.Bool.{Bool, true, false, true≢false}
 use mathlib.Core.List.{List, [], _∷_}
 use lib.Dec.{ltb}
+use native.Mathlib.Omega.{arith}
+use borrow.Author.Tests.{lt-ltb}
 use Rattle.bits.specs.Choice.{if_then_else_}
 use Rattle.bits.proofs.Choice.{either}
 use Rattle.word.specs.declared.Word.{Word}
@@ -23,6 +25,7 @@ use Rattle.line.specs.declared.Outcome.{Outcome as LineOutcome}
 use Rattle.state.specs.declared.Service.{Service}
 use Rattle.events.specs.declared.Event.{Event}
 use Rattle.events.specs.declared.Event.the-variants.{Key, Call, Poll, TimeOut, Empty, Restart}
+use Rattle.answers.specs.declared.Refusal.{Refusal}
 use Rattle.answers.specs.declared.Refusal.the-variants as refusal
 use Rattle.answers.specs.declared.Answer.{Answer}
 use Rattle.answers.specs.declared.Answer.the-variants.{Taken, Done, Stored, Refused}
@@ -133,6 +136,13 @@ step-keeps service TimeOut = line-keeps service _ Done (record { low = refl })
 step-keeps service Empty = accepting (record { low = refl })
 step-keeps service Restart = accepting (record { low = refl })
 
+-- a refused event leaves the service, whether its number or its answer is known
+pub refused-step : (service : Service) (event : Event) → isRefusal (shownOf (stepOf service event)) ≡ true → next service event ≡ service
+refused-step service event refused = step-keeps service event .kept refused
+
+pub refused-answer : (service : Service) (event : Event) (refusal : Refusal) → stepOf service event .answer ≡ Refused refusal → next service event ≡ service
+refused-answer service event refusal refused = refused-step service event (rw refused (lt-ltb 0x7F (ansOf (Refused refusal)) (omega arith)))
+
 -- ---- lists
 
 -- the two sides of the claim for a list with one event more
@@ -140,7 +150,7 @@ taken-out : (service : Service) (event : Event) (more : List Event) (refused : B
     → RefusedChangeNothing (next service event) more → RefusedChangeNothing service (event ∷ more)
 unfolding if_then_else_
 taken-out service event more true e h =
-    let same : next service event ≡ service = step-keeps service event .kept e in
+    let same : next service event ≡ service = refused-step service event e in
     record {
       shown = simp e (ap (λ (s : Service). run s (accepted (next service event) more)) (sym same) ∙ h .shown);
       last = simp e (ap (λ (s : Service). after s (accepted (next service event) more)) (sym same) ∙ h .last);

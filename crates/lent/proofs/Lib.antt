@@ -1,8 +1,2 @@
-pub mod Plain
-pub mod LentAlone
-pub mod LentWithOne
-pub mod LentWithThree
-pub mod LentWithBuffer
-pub mod Lending
 pub mod Types
 pub mod LentLaws

@@ -2,7 +2,7 @@
 -- Assumes nothing.
 use mathlib.Core.Path.{refl}
 use mathlib.Core.List.{[]}
-use mir.Syntax.{Ty, tyNamed, w8}
+use mir.Syntax.{Ty, tyNamed}
 use denote.Struct.Laws as LL
 use Rattle.state.proofs.Service as Service
 use Rattle.state.proofs.Service.Laws as Service′
@@ -14,16 +14,13 @@ use Rattle.lent.proofs.Stepped as Stepped
 use Rattle.lent.proofs.Stepped.Laws as Stepped′
 use Rattle.lent.proofs.Tried as Tried
 use Rattle.lent.proofs.Tried.Laws as Tried′
-use Rattle.lent.proofs.Plain.{Plain, number, struct, enum, Outcome}
+use Rattle.lending.proofs.Plain.{Plain, byte, struct, enum, Outcome}
 
 abbrev pub service : Plain
 service = struct Service.the-type Service′.the-laws Service′.the-plain
 
 abbrev pub service-name : Ty
 service-name = tyNamed (Service.the-type .name, [])
-
-abbrev pub byte : Plain
-byte = number w8
 
 abbrev pub event : Plain
 event = enum Event.the-type Event′.the-laws Event′.the-plain tt

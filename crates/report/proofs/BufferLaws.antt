@@ -1,9 +1,8 @@
 -- The laws that BufferLaws.antt of specs/ states.
 -- Assumes nothing.
 use Prim.Native.Nat.{ℕ, _<_, _≤_}
-use mathlib.Core.Path.{_≡_, sym}
-use mathlib.Core.Bool.{true}
-use mathlib.Core.List.{List, [], _∷_, _++_}
+use mathlib.Core.Path.{_≡_}
+use mathlib.Core.List.{List, _++_}
 use lib.ListN.{length, drop, length-drop}
 use native.Mathlib.Omega.{arith}
 use borrow.Author.Tests.{ltb-true, lt-ltb, le-ltb}
@@ -17,9 +16,8 @@ use Rattle.answers.specs.declared.Answer.{Answer}
 use Rattle.answers.specs.declared.Answer.the-variants.{Nothing, Put, Dropped, Break, RestartAsked, Overrun, Taken, Ignored, Returned, NoWord, Status, Done, Stored, Send, Quiet, GivenUp, Refused}
 use Rattle.answers.specs.Answers.{ansOf}
 use Rattle.events.specs.Step.{stepOf}
-use Rattle.events.specs.Run.{shownOf, next}
-use Rattle.events.specs.Refused.{isRefusal}
-use Rattle.events.proofs.RefusedCalls.{refused-calls-change-nothing}
+use Rattle.events.specs.Run.{next}
+use Rattle.events.proofs.RefusedCalls.{refused-answer}
 use Rattle.report.specs.declared.Report.{Report}
 use Rattle.report.specs.declared.Reported.{Reported}
 use Rattle.report.specs.Report.{reportOf}
@@ -86,20 +84,13 @@ nine-is-short service event buffer =
     (λ short nine. ltb-true _ _ short)
     (λ long nine. absurd (omega (arith, at-most-five (stepOf service event .answer))))
 
--- a refused event leaves the service: taken out of the list of itself, it leaves the same service behind
-refused-keeps : (service : Service) (event : Event) (refusal : Refusal) → stepOf service event .answer ≡ Refused refusal → next service event ≡ service
-unfolding if_then_else_
-refused-keeps service event refusal refused =
-    let above : isRefusal (shownOf (stepOf service event)) ≡ true = rw refused (lt-ltb 0x7F (ansOf (Refused refusal)) (omega arith)) in
-    sym (simp above at (refused-calls-change-nothing service (event ∷ []) .last))
-
 pub refused-call-written : RefusedCallWritten
 unfolding reportOf
 refused-call-written service event buffer refusal long refused =
     let whole = long-reported service event buffer long in
     record {
       number = rw (whole, refused) (omega arith);
-      kept = rw whole (refused-keeps service event refusal refused);
+      kept = rw whole (refused-answer service event refusal refused);
       ans = rw refused;
       word = rw refused;
     }

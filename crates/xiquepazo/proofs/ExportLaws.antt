@@ -27,7 +27,7 @@ use Rattle.xiquepazo.specs.declared.by_image.Refused.{Refused}
 use Rattle.image.specs.Image.{imageOf, serviceOf}
 use Rattle.xiquepazo.specs.Exports.{shownOf, stepIn, unknownIn, recognised, taggedIn, triedIn, reportedAs, writtenAs, makeTo}
 use Rattle.xiquepazo.specs.ExportLaws.{seen, seenFrom, Follows, ImagesFollow, TagsRecognised, Leaves, UnknownRefused}
-use Rattle.lent.proofs.LentLaws.{refused-step}
+use Rattle.events.proofs.RefusedCalls.{refused-step}
 use Rattle.image.proofs.ImageLaws.{comes-back}
 
 step-follows : (image : Image) (event : Event) → serviceOf (stepIn image event .image) ≡ next (serviceOf image) event

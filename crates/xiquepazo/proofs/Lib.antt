@@ -1,3 +1,2 @@
-pub mod Looked
 pub mod ImageTypes
 pub mod ExportLaws

@@ -1,8 +1,8 @@
--- The proof of `lent::event_on_copy`: the walk of `Lending` over `event`.
+-- The proof of `lent::event_on_copy`: the walk of `LentCopy` over `event`.
 -- Assumes nothing.
 use Rattle.lent.specs.Lent.{eventIn}
 use Rattle.lent.proofs.Types.{service, service-name, reply, stepped, event}
-use Rattle.lent.proofs.Lending.{proved}
+use Rattle.lending.proofs.LentCopy.{proved}
 use Rattle.lent.proofs.by_value.event.Symbol as core
 use Rattle.lent.proofs.event.Symbol as lent
 use Rattle.lent.proofs.event.Met as lent-met

@@ -1,8 +1,9 @@
 -- The proof of `lent::make`: the walk of `LentWithOne` over `by_value::make`.
 -- Assumes nothing.
 use Rattle.lent.specs.Lent.{madeIn}
-use Rattle.lent.proofs.Types.{service, service-name, byte, tried}
-use Rattle.lent.proofs.LentWithOne.{proved}
+use Rattle.lent.proofs.Types.{service, service-name, tried}
+use Rattle.lending.proofs.Plain.{byte}
+use Rattle.lending.proofs.LentWithOne.{proved}
 use Rattle.lent.proofs.by_value.make.Symbol as core
 use Rattle.lent.proofs.by_value.make.Met as core-met
 use Rattle.lent.proofs.make.Key as key

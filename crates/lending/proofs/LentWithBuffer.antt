@@ -41,7 +41,7 @@ use denote.Triple.Clauses.{Ended, Clauses, closing, ensured, lasts}
 use denote.Triple.Table.{entered, cited}
 use denote.Triple.Walked.{says, Stays, stay-ref, stay-none, gave-slice, walkOf, AllGo, goes-none, goes-ref, goes-gave-slice, Walks, ends-at, walked, walk-meets}
 use denote.Exit.{yes}
-use Rattle.lent.proofs.Plain.{Plain, row, Outcome, outcome-row}
+use Rattle.lending.proofs.Plain.{Plain, row, Outcome, outcome-row}
 
 module _ (T N P : Plain) (O : Outcome T N) (name-of : Ty) (#core : Name) (spec : T .Denot → P .Denot → List ℕ → O .Denot) (written : T .Denot → P .Denot → List ℕ → List ℕ) where
   -- the code

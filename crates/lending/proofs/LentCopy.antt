@@ -39,8 +39,8 @@ use denote.Triple.Clauses.{Ended, Clauses, closing, ensured, lasts}
 use denote.Triple.Table.{entered, cited}
 use denote.Triple.Walked.{says, Stays, stay-none, walkOf, AllGo, goes-none, Walks, ends-at, walked, walk-meets}
 use denote.Exit.{yes}
-use Rattle.lent.proofs.Plain.{Plain, row, Outcome, outcome-row}
-use Rattle.lent.proofs.LentWithOne as lent
+use Rattle.lending.proofs.Plain.{Plain, row, Outcome, outcome-row}
+use Rattle.lending.proofs.LentWithOne as lent
 
 -- a local that holds plain data is lent, and taken back
 module _ {M : Type 1} (𝓤 : URA M) (H : Heap 𝓤) (A : Atoms 𝓤) (W : Given 𝓤 H A) (T : Plain) (l : ℕ) (h : T .Denot) where

@@ -38,7 +38,7 @@ use denote.Triple.Clauses.{Ended, Clauses, closing, ensured, lasts}
 use denote.Triple.Table.{entered, cited}
 use denote.Triple.Walked.{says, Stays, stay-ref, stay-none, walkOf, AllGo, goes-none, goes-ref, Walks, ends-at, walked, walk-meets}
 use denote.Exit.{yes}
-use Rattle.lent.proofs.Plain.{Plain, row, Outcome, outcome-row}
+use Rattle.lending.proofs.Plain.{Plain, row, Outcome, outcome-row}
 
 module _ (T N P₁ P₂ P₃ : Plain) (O : Outcome T N) (name-of : Ty) (#core : Name) (spec : T .Denot → P₁ .Denot → P₂ .Denot → P₃ .Denot → O .Denot) where
   -- the code

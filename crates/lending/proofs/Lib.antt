@@ -1,0 +1,7 @@
+pub mod Plain
+pub mod LentAlone
+pub mod LentWithOne
+pub mod LentWithThree
+pub mod LentWithBuffer
+pub mod LentCopy
+pub mod Looked
