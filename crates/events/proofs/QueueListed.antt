@@ -33,7 +33,7 @@ use Rattle.state.specs.State.{newService}
 use Rattle.events.specs.Outcomes.{answeredOf, offeredOf}
 use Rattle.events.specs.Keyboard.{brokenOf, onEffect, typedOf, keyOf}
 use Rattle.events.specs.Commands.{lineAnswer, onLine, pollOf, acknowledgeOf, resendOf, timeOutOf, restartOf}
-use Rattle.events.specs.Functions.{oldestAnswer, takeOf, lookOf, statusOf, setRateOf, storeOf, callOf}
+use Rattle.events.specs.Functions.{oldestAnswer, takeOf, lookOf, statusOf, setRateOf, callOf}
 use Rattle.events.specs.Step.{emptyOf, stepOf}
 use Rattle.events.specs.Run.{next, after}
 use Rattle.events.specs.Queued.{removes, empties, wordsAfter, Fits, QueueAsListed, QueueAtMostFifteen}
@@ -66,30 +66,34 @@ emptied list = refl
 same : {event : Event} {answer : Answer} (q : Queue) → Whole q → Idle event answer → Told event q answer q
 same q w h = record { words = sym (h .words (wordsOf q)); fits = h .fits (wordsOf q); whole = w }
 
--- ---- a word is put
+-- ---- a word is offered
 
-module _ (event : Event) (answer : Bool → Answer) (q : Queue) (word : Word) (w : Whole q)
-    (appends : (list : List Word) → wordsAfter event (answer true) list ≡ list ++ (word ∷ []))
-    (drops : (list : List Word) → wordsAfter event (answer false) list ≡ list)
-    (room : (list : List Word) → length list < 15 → Fits (answer true) list)
-    (none : (list : List Word) → length list ≡ 15 → Fits (answer false) list) where
-  put-by : (t : Bool) → hasRoom (wordsOf q) ≡ t → Told event q (answer t) (queue.putOf q word .queue)
+module _ (event : Event) (kept full : Answer) (service : Service) (word : Word) (w : Whole (service .queue))
+    (appends : (list : List Word) → wordsAfter event kept list ≡ list ++ (word ∷ []))
+    (drops : (list : List Word) → wordsAfter event full list ≡ list)
+    (room : (list : List Word) → length list < 15 → Fits kept list)
+    (none : (list : List Word) → length list ≡ 15 → Fits full list) where
+  abbrev words-before : List Word
+  words-before = wordsOf (service .queue)
+
+  offered-by : (t : Bool) → hasRoom words-before ≡ t → Told event (service .queue) (if t then kept else full) (queue.putOf (service .queue) word .queue)
   unfolding putIn if_then_else_
-  put-by true e =
+  offered-by true e =
       record {
-        words = as-listed .put q word w .words ∙ simp e (sym (appends (wordsOf q)));
-        fits = room (wordsOf q) (ltb-true (length (wordsOf q)) 15 e);
-        whole = stays-whole .put q word w;
+        words = as-listed .put (service .queue) word w .words ∙ simp e (sym (appends words-before));
+        fits = room words-before (ltb-true (length words-before) 15 e);
+        whole = stays-whole .put (service .queue) word w;
       }
-  put-by false e =
+  offered-by false e =
       record {
-        words = as-listed .put q word w .words ∙ simp e (sym (drops (wordsOf q)));
-        fits = none (wordsOf q) (omega (arith, ltb-false (length (wordsOf q)) 15 e, at-most-fifteen q));
-        whole = stays-whole .put q word w;
+        words = as-listed .put (service .queue) word w .words ∙ simp e (sym (drops words-before));
+        fits = none words-before (omega (arith, ltb-false (length words-before) 15 e, at-most-fifteen (service .queue)));
+        whole = stays-whole .put (service .queue) word w;
       }
 
-  put-told : Told event q (answer (queue.putOf q word .stored)) (queue.putOf q word .queue)
-  put-told = rw (as-listed .put q word w .stored) (put-by (hasRoom (wordsOf q)) refl)
+  offered-tells : Tells event (service .queue) (offeredOf service word kept full)
+  unfolding offeredOf answeredOf
+  offered-tells = record { told = rw (as-listed .put (service .queue) word w .stored) (offered-by (hasRoom words-before) refl) }
 
 -- ---- keys
 
@@ -104,10 +108,10 @@ broken-told event q =
     }
 
 effect-tells : (byte : ℕ) (service : Service) (e : Effect) → Whole (service .queue) → Tells (Key byte) (service .queue) (onEffect service e)
-unfolding onEffect answeredOf offeredOf brokenOf if_then_else_
+unfolding onEffect answeredOf brokenOf
 effect-tells byte service effect.Nothing w = record { told = same (service .queue) w (record { words = λ _. refl; fits = λ _. tt }) }
 effect-tells byte service (effect.Put word) w =
-    record { told = put-told (Key byte) (λ stored. if stored then Put word else Dropped word) (service .queue) word w (λ _. refl) (λ _. refl) (λ _ h. h) (λ _ h. h) }
+    offered-tells (Key byte) (Put word) (Dropped word) service word w (λ _. refl) (λ _. refl) (λ _ h. h) (λ _ h. h)
 effect-tells byte service effect.Break w = record { told = broken-told (Key byte) (service .queue) }
 effect-tells byte service effect.Restart w = record { told = same (service .queue) w (record { words = λ _. refl; fits = λ _. tt }) }
 effect-tells byte service effect.Overrun w = record { told = same (service .queue) w (record { words = λ _. refl; fits = λ _. tt }) }
@@ -183,14 +187,6 @@ answered-tells : (event : Event) (service : Service) (answer : Answer) (q : Queu
 unfolding answeredOf
 answered-tells event service answer q e w h = record { told = rw e (same q w h) }
 
-store-tells : (function a b : ℕ) (service : Service) (word : Word) → Whole (service .queue) → Tells (Call function a b) (service .queue) (storeOf service word)
-unfolding offeredOf answeredOf if_then_else_
-store-tells function a b service word w =
-    record {
-      told =
-          put-told (Call function a b) (λ stored. if stored then Stored word else Refused refusal.Full) (service .queue) word w (λ _. refl) (λ _. refl) (λ _ h. h) (λ _ h. h);
-    }
-
 call-tells : (service : Service) (function a b : ℕ) → Whole (service .queue) → Tells (Call function a b) (service .queue) (callOf service function a b)
 unfolding callOf statusOf setRateOf
 call-tells service function a b w =
@@ -202,13 +198,16 @@ call-tells service function a b w =
     (either (Tells event q) _ _ _
     (either (Tells event q) _ _ _ (idle service _ refl (record { words = λ _. refl; fits = λ _. tt }))
     (either (Tells event q) _ _ _ (idle service _ refl (record { words = λ _. refl; fits = λ _. tt })) (idle _ Done refl (done refl))))
-    (either (Tells event q) _ _ _ (store-tells function a b service (wordAt a b) w) (idle service _ refl (record { words = λ _. refl; fits = λ _. tt })))))))
+    (either (Tells event q) _ _ _ (offered-tells event (Stored word) (Refused refusal.Full) service word w (λ _. refl) (λ _. refl) (λ _ h. h) (λ _ h. h)) (idle service _ refl (record { words = λ _. refl; fits = λ _. tt })))))))
   where
     event : Event
     event = Call function a b
 
     q : Queue
     q = service .queue
+
+    word : Word
+    word = wordAt a b
 
     idle : (after : Service) (answer : Answer) → after .queue ≡ q → Idle event answer → Tells event q (answeredOf after answer)
     idle after answer e h = answered-tells event after answer q e w h
