@@ -5,7 +5,7 @@ use Rattle.bits.specs.Bits.{weightOf, byteOf}
 use Rattle.rows.specs.Rows.{rows, extendedRows}
 use Rattle.rows.specs.Column.{isShifted, columnOf}
 use Rattle.rows.specs.Lookup.{entryAt, lookupOf}
-use Rattle.port.specs.Prefix.{opened, continued, readOf}
+use Rattle.port.specs.Prefix.{opened, continued, readingOf}
 use Rattle.port.specs.Flags.{modifiersAfter, heldAfter, locksAfter, flagsChanged}
 use Rattle.port.specs.AltEntry.{digitIn, altDigit, altEnded}
 use Rattle.port.specs.Makes.{entryFor, wordPut, entryPut, typed, counted, entered, madeOf}
@@ -26,7 +26,7 @@ use Rattle.events.specs.Step.{emptyOf, stepOf}
 unfoldable pub model : Unit {0}
 unfolding if_then_else_ weightOf byteOf
     rows extendedRows isShifted columnOf entryAt lookupOf
-    opened continued readOf modifiersAfter heldAfter locksAfter flagsChanged digitIn altDigit altEnded
+    opened continued readingOf modifiersAfter heldAfter locksAfter flagsChanged digitIn altDigit altEnded
     entryFor wordPut entryPut typed counted entered madeOf onEntry codeRead onReading keyByteOf
     queue.emptyQueue queue.oldestOf queue.putOf queue.restOf queue.takeOf
     line.newLine line.waitRateOf line.sentIn line.sentOf line.isLedOf line.ledRunsIn line.ledRunsOf line.isValueOf line.unchangedOf

@@ -18,7 +18,7 @@ use Rattle.port.specs.KeyByte.{keyByteOf}
 use Rattle.queue.specs.declared.Queue.{Queue}
 use Rattle.queue.specs.Queue as queue
 use Rattle.queue.specs.Words.{wordsOf, Whole, hasRoom, putIn, oldestIn, restIn}
-use Rattle.queue.proofs.Laws.{at-most-fifteen, empty-holds-none, stays-whole, as-listed}
+use Rattle.queue.proofs.Laws.{at-most-capacity, empty-holds-none, stays-whole, as-listed}
 use Rattle.line.specs.declared.Answer.{Answer as LineAnswer}
 use Rattle.line.specs.declared.Answer.the-variants as line-answer
 use Rattle.line.specs.declared.Outcome.{Outcome as LineOutcome}
@@ -36,7 +36,7 @@ use Rattle.events.specs.Commands.{lineAnswer, onLine, pollOf, acknowledg
 use Rattle.events.specs.Functions.{oldestAnswer, takeOf, lookOf, statusOf, setRateOf, callOf}
 use Rattle.events.specs.Step.{emptyOf, stepOf}
 use Rattle.events.specs.Run.{next, after}
-use Rattle.events.specs.Queued.{removes, empties, wordsAfter, Fits, QueueAsListed, QueueAtMostFifteen}
+use Rattle.events.specs.Queued.{removes, empties, wordsAfter, Fits, QueueAsListed, QueueAtMostCapacity}
 
 -- a queue, what an event answers and the queue after it
 record Told (event : Event) (before : Queue) (answer : Answer) (later : Queue) : Type 0 where
@@ -71,8 +71,8 @@ same q w h = record { words = sym (h .words (wordsOf q)); fits = h .fits (wordsO
 module _ (event : Event) (kept full : Answer) (service : Service) (word : Word) (w : Whole (service .queue))
     (appends : (list : List Word) → wordsAfter event kept list ≡ list ++ (word ∷ []))
     (drops : (list : List Word) → wordsAfter event full list ≡ list)
-    (room : (list : List Word) → length list < 15 → Fits kept list)
-    (none : (list : List Word) → length list ≡ 15 → Fits full list) where
+    (room : (list : List Word) → length list < queue.capacity → Fits kept list)
+    (none : (list : List Word) → length list ≡ queue.capacity → Fits full list) where
   abbrev words-before : List Word
   words-before = wordsOf (service .queue)
 
@@ -81,13 +81,13 @@ module _ (event : Event) (kept full : Answer) (service : Service) (word : Word) 
   offered-by true e =
       record {
         words = as-listed .put (service .queue) word w .words ∙ simp e (sym (appends words-before));
-        fits = room words-before (ltb-true (length words-before) 15 e);
+        fits = room words-before (ltb-true (length words-before) queue.capacity e);
         whole = stays-whole .put (service .queue) word w;
       }
   offered-by false e =
       record {
         words = as-listed .put (service .queue) word w .words ∙ simp e (sym (drops words-before));
-        fits = none words-before (omega (arith, ltb-false (length words-before) 15 e, at-most-fifteen (service .queue)));
+        fits = none words-before (omega (arith, ltb-false (length words-before) queue.capacity e, at-most-capacity (service .queue)));
         whole = stays-whole .put (service .queue) word w;
       }
 
@@ -113,7 +113,7 @@ effect-tells byte service effect.Nothing w = record { told = same (service .queu
 effect-tells byte service (effect.Put word) w =
     offered-tells (Key byte) (Put word) (Dropped word) service word w (λ _. refl) (λ _. refl) (λ _ h. h) (λ _ h. h)
 effect-tells byte service effect.Break w = record { told = broken-told (Key byte) (service .queue) }
-effect-tells byte service effect.Restart w = record { told = same (service .queue) w (record { words = λ _. refl; fits = λ _. tt }) }
+effect-tells byte service effect.RestartAsked w = record { told = same (service .queue) w (record { words = λ _. refl; fits = λ _. tt }) }
 effect-tells byte service effect.Overrun w = record { told = same (service .queue) w (record { words = λ _. refl; fits = λ _. tt }) }
 
 line-idle : (event : Event) (answer : LineAnswer) (taken : Answer) → Idle event taken → Idle event (lineAnswer answer taken)
@@ -238,5 +238,5 @@ queue-as-listed locks events event =
     let told = step-tells (after (newService locks) events) event (whole-after (newService locks) events (whole-new locks)) .told in
     record { words = told .words; fits = told .fits }
 
-pub queue-at-most-fifteen : QueueAtMostFifteen
-queue-at-most-fifteen locks events = at-most-fifteen (after (newService locks) events .queue)
+pub queue-at-most-capacity : QueueAtMostCapacity
+queue-at-most-capacity locks events = at-most-capacity (after (newService locks) events .queue)

@@ -72,7 +72,7 @@ unfolding onEffect answeredOf offeredOf brokenOf
 effect-keeps service before effect.Nothing = accepting (record { low = refl })
 effect-keeps service before (effect.Put word) = accepting (either Accepts _ _ _ (record { low = refl }) (record { low = refl }))
 effect-keeps service before effect.Break = accepting (record { low = refl })
-effect-keeps service before effect.Restart = accepting (record { low = refl })
+effect-keeps service before effect.RestartAsked = accepting (record { low = refl })
 effect-keeps service before effect.Overrun = accepting (record { low = refl })
 
 typed-keeps : (service : Service) (byte : ℕ) → Keeps service (typedOf service byte)

@@ -111,7 +111,7 @@ unfolding onEffect answeredOf offeredOf brokenOf
 effect-queues service effect.Nothing = refl
 effect-queues service (effect.Put word) = refl
 effect-queues service effect.Break = refl
-effect-queues service effect.Restart = refl
+effect-queues service effect.RestartAsked = refl
 effect-queues service effect.Overrun = refl
 
 -- no reply of the line

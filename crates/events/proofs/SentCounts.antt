@@ -142,7 +142,7 @@ effect-right before service effect.Nothing e w = answered-right before service _
 effect-right before service (effect.Put word) e w =
     answered-right before _ _ (ap (λ (l : Line). l .phase) e) w (either Silent _ _ _ (record { silent = refl }) (record { silent = refl }))
 effect-right before service effect.Break e w = answered-right before _ _ (ap (λ (l : Line). l .phase) e) w (record { silent = refl })
-effect-right before service effect.Restart e w = answered-right before service _ (ap (λ (l : Line). l .phase) e) w (record { silent = refl })
+effect-right before service effect.RestartAsked e w = answered-right before service _ (ap (λ (l : Line). l .phase) e) w (record { silent = refl })
 effect-right before service effect.Overrun e w = answered-right before service _ (ap (λ (l : Line). l .phase) e) w (record { silent = refl })
 
 typed-right : (service : Service) (byte : ℕ) → Within (service .line) → Right service (typedOf service byte)

@@ -28,7 +28,7 @@ unfoldable pub onEffect : Service → Effect → Outcome
 onEffect service effect.Nothing = answeredOf service Nothing
 onEffect service (effect.Put word) = putOf service word
 onEffect service effect.Break = brokenOf service
-onEffect service effect.Restart = answeredOf service RestartAsked
+onEffect service effect.RestartAsked = answeredOf service RestartAsked
 onEffect service effect.Overrun = answeredOf service Overrun
 
 -- steps 2 to 9

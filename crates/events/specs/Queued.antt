@@ -9,6 +9,7 @@ use lib.ListN.{length}
 use Rattle.bits.specs.Choice.{if_then_else_}
 use Rattle.word.specs.declared.Word.{Word}
 use Rattle.word.specs.Word.{wordAt}
+use Rattle.queue.specs.Queue.{capacity}
 use Rattle.queue.specs.Words.{wordsOf, restIn}
 use Rattle.state.specs.declared.Service.{Service}
 use Rattle.events.specs.declared.Event.{Event}
@@ -61,8 +62,8 @@ wordsAfter event (Refused refusal) words = words
 -- a word is put below 15 words, dropped or refused at 15, returned as the first
 abbrev pub Fits : Answer → List Word → Type 0
 Fits Nothing words = Unit {0}
-Fits (Put word) words = length words < 15
-Fits (Dropped word) words = length words ≡ 15
+Fits (Put word) words = length words < capacity
+Fits (Dropped word) words = length words ≡ capacity
 Fits Break words = Unit {0}
 Fits RestartAsked words = Unit {0}
 Fits Overrun words = Unit {0}
@@ -72,14 +73,14 @@ Fits (Returned word) words = words ≡ word ∷ restIn words
 Fits NoWord words = words ≡ []
 Fits (Status status) words = Unit {0}
 Fits Done words = Unit {0}
-Fits (Stored word) words = length words < 15
+Fits (Stored word) words = length words < capacity
 Fits (Send byte) words = Unit {0}
 Fits Quiet words = Unit {0}
 Fits GivenUp words = Unit {0}
 Fits (Refused refusal.Function) words = Unit {0}
 Fits (Refused refusal.Delay) words = Unit {0}
 Fits (Refused refusal.Rate) words = Unit {0}
-Fits (Refused refusal.Full) words = length words ≡ 15
+Fits (Refused refusal.Full) words = length words ≡ capacity
 
 -- an event does to the queue what its answer says
 pub record Listed (service : Service) (event : Event) : Type 0 where
@@ -91,5 +92,5 @@ abbrev pub QueueAsListed : Type 0
 QueueAsListed = (locks : ℕ) (events : List Event) (event : Event) → Listed (after (newService locks) events) event
 
 -- and no list brings more than 15 words
-abbrev pub QueueAtMostFifteen : Type 0
-QueueAtMostFifteen = (locks : ℕ) (events : List Event) → length (wordsOf (after (newService locks) events .queue)) ≤ 15
+abbrev pub QueueAtMostCapacity : Type 0
+QueueAtMostCapacity = (locks : ℕ) (events : List Event) → length (wordsOf (after (newService locks) events .queue)) ≤ capacity

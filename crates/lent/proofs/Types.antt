@@ -14,7 +14,7 @@ use Rattle.lent.proofs.Stepped as Stepped
 use Rattle.lent.proofs.Stepped.Laws as Stepped′
 use Rattle.lent.proofs.Tried as Tried
 use Rattle.lent.proofs.Tried.Laws as Tried′
-use Rattle.lending.proofs.Plain.{Plain, byte, struct, enum, Outcome}
+use Rattle.lent_walks.proofs.Plain.{Plain, byte, struct, enum, Outcome}
 
 abbrev pub service : Plain
 service = struct Service.the-type Service′.the-laws Service′.the-plain

@@ -48,25 +48,25 @@ pub fn event(service: Service, event: Event) -> Stepped
 pub fn key(service: Service, byte: u8) -> Stepped
     ensures { λ r. ⌜ r ≡ keyIn service byte ⌝ }
 {
-    stepped(keyboard::key(service, byte))
+    stepped(events_keyboard::key(service, byte))
 }
 
 pub fn call(service: Service, function: u8, a: u8, b: u8) -> Stepped
     ensures { λ r. ⌜ r ≡ callIn service function a b ⌝ }
 {
-    stepped(functions::call(service, function, a, b))
+    stepped(events_functions::call(service, function, a, b))
 }
 
 pub fn poll(service: Service) -> Stepped
     ensures { λ r. ⌜ r ≡ pollIn service ⌝ }
 {
-    stepped(commands::poll(service))
+    stepped(events_commands::poll(service))
 }
 
 pub fn report(service: Service, event: Event, buffer: &mut [u8]) -> Tried
     ensures { λ r. ⌜ (r ≡ reportedIn service event (now (buffer .entry))) × (now (buffer .exit) ≡ bufferOf service event (now (buffer .entry))) ⌝ }
 {
-    let reported = reporter::report_event(service, event, buffer);
+    let reported = report_call::report_event(service, event, buffer);
     let after = reported.service;
     Tried {
         service: after,

@@ -8,7 +8,7 @@ use Rattle.bits.specs.Choice.{if_then_else_}
 use Rattle.line.specs.State.{newLine, sentIn, sentOf, unchangedOf}
 use Rattle.line.specs.Poll.{oneMoreOf, countedOf, sendOf, startOf, pollOf}
 use Rattle.line.specs.Reply.{operandOf, markResendOf, endedOf, failedOf, replyIn, acknowledgeOf, resendOf, timeOutOf}
-use Rattle.line.specs.Inputs.{Input, poll, acknowledge, resend, timeOut, restart, waitRate, afterAll, sentAt}
+use Rattle.line.specs.Inputs.{Input, poll, acknowledge, resend, timeOut, restart, waitRate, lineAfterAll, sentAt}
 use Rattle.line.specs.Laws.{Counted, WithinIn, Within, SixBytes, sendsBy, CarriedIn, Counts, TrueCounts, sendsIn, SendCounts, SendsAgain}
 use Rattle.line.specs.declared.Command.{Command}
 use Rattle.line.specs.declared.Phase.{Phase}
@@ -126,4 +126,4 @@ most-at line h restart = omega arith
 most-at line h (waitRate rate) = sent-most line h
 
 pub six-bytes : SixBytes
-six-bytes inputs = most-at (afterAll newLine inputs) (three-sends inputs)
+six-bytes inputs = most-at (lineAfterAll newLine inputs) (three-sends inputs)

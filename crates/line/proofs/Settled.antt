@@ -10,7 +10,7 @@ use Rattle.bits.specs.Choice.{if_then_else_}
 use Rattle.line.specs.State.{waitRateOf, isLedOf, ledRunsIn, ledRunsOf, isValueOf, unchangedOf}
 use Rattle.line.specs.Poll.{waitingOf, nextOf, firstByteOf, dueOf, countedOf, sendOf, startOf, pollOf}
 use Rattle.line.specs.Reply.{markAcknowledgedOf, markAbandonedOf, operandOf, markResendOf, markDoneOf, endedOf, failedOf, replyIn, acknowledgeOf, resendOf, timeOutOf}
-use Rattle.line.specs.Inputs.{Input, poll, acknowledge, resend, timeOut, restart, waitRate, after}
+use Rattle.line.specs.Inputs.{Input, poll, acknowledge, resend, timeOut, restart, waitRate, lineAfter}
 use Rattle.line.specs.Laws.{Settled, Abandons, GivesUp, Standing, StaysSettled, NoSecondStart, NotStartedAgain}
 use Rattle.line.specs.declared.Kind.{Kind}
 use Rattle.line.specs.declared.Kind.the-variants.{Led, Rate}
@@ -95,7 +95,7 @@ module _ (value : ℕ) (line : Line) (s : Settled value line) where
   unfolding waitRateOf ledRunsOf
   wait-rate-settled rate = record { handled = s .handled; rests = s .rests }
 
-  pub settled-after : (input : Input) → Standing value input → Settled value (after line input)
+  pub settled-after : (input : Input) → Standing value input → Settled value (lineAfter line input)
   settled-after (poll led) e = rw e poll-settled
   settled-after acknowledge h = acknowledge-settled
   settled-after resend h = resend-settled
@@ -106,7 +106,7 @@ module _ (value : ℕ) (line : Line) (s : Settled value line) where
 pub stays-settled : StaysSettled
 stays-settled value line [] h s = s
 stays-settled value line (input ∷ inputs) h s =
-    stays-settled value (after line input) inputs (h .1) (settled-after value line s input (h .0))
+    stays-settled value (lineAfter line input) inputs (h .1) (settled-after value line s input (h .0))
 
 pub not-started-again : NotStartedAgain
 not-started-again line command e k b inputs h =

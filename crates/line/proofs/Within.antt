@@ -11,7 +11,7 @@ use Rattle.bits.proofs.Choice.{either}
 use Rattle.line.specs.State.{newLine, waitRateOf, unchangedOf}
 use Rattle.line.specs.Poll.{oneMoreOf, countedOf, sendOf, startOf, pollOf}
 use Rattle.line.specs.Reply.{operandOf, markResendOf, endedOf, failedOf, replyIn, acknowledgeOf, resendOf, timeOutOf}
-use Rattle.line.specs.Inputs.{Input, poll, acknowledge, resend, timeOut, restart, waitRate, after, afterAll}
+use Rattle.line.specs.Inputs.{Input, poll, acknowledge, resend, timeOut, restart, waitRate, lineAfter, lineAfterAll}
 use Rattle.line.specs.Laws.{Counted, Within, ThreeSends}
 use Rattle.line.specs.declared.Command.{Command}
 use Rattle.line.specs.declared.Line.{Line}
@@ -79,7 +79,7 @@ pub new-within : Within newLine
 unfolding newLine
 new-within = tt
 
-pub kept : (line : Line) (input : Input) → Within line → Within (after line input)
+pub kept : (line : Line) (input : Input) → Within line → Within (lineAfter line input)
 kept line (poll led) h = poll-within line led h
 kept line acknowledge h = acknowledge-within line h
 kept line resend h = resend-within line h
@@ -87,9 +87,9 @@ kept line timeOut h = time-out-within line h
 kept line restart h = new-within
 kept line (waitRate rate) h = wait-rate-within line rate h
 
-pub kept-all : (line : Line) (inputs : List Input) → Within line → Within (afterAll line inputs)
+pub kept-all : (line : Line) (inputs : List Input) → Within line → Within (lineAfterAll line inputs)
 kept-all line [] h = h
-kept-all line (input ∷ inputs) h = kept-all (after line input) inputs (kept line input h)
+kept-all line (input ∷ inputs) h = kept-all (lineAfter line input) inputs (kept line input h)
 
 pub three-sends : ThreeSends
 three-sends inputs = kept-all newLine inputs new-within

@@ -14,18 +14,18 @@ pub data Input : Type 0 where
   waitRate : ℕ → Input
 
 -- the line after an input
-abbrev pub after : Line → Input → Line
-after line (poll led) = pollOf line led .line
-after line acknowledge = acknowledgeOf line .line
-after line resend = resendOf line .line
-after line timeOut = timeOutOf line .line
-after line restart = newLine
-after line (waitRate rate) = waitRateOf line rate
+abbrev pub lineAfter : Line → Input → Line
+lineAfter line (poll led) = pollOf line led .line
+lineAfter line acknowledge = acknowledgeOf line .line
+lineAfter line resend = resendOf line .line
+lineAfter line timeOut = timeOutOf line .line
+lineAfter line restart = newLine
+lineAfter line (waitRate rate) = waitRateOf line rate
 
 -- the line after a list of inputs
-abbrev pub afterAll : Line → List Input → Line
-afterAll line [] = line
-afterAll line (input ∷ inputs) = afterAll (after line input) inputs
+abbrev pub lineAfterAll : Line → List Input → Line
+lineAfterAll line [] = line
+lineAfterAll line (input ∷ inputs) = lineAfterAll (lineAfter line input) inputs
 
 -- the count of bytes sent that is shown at an input: 0 at a restart
 abbrev pub sentAt : Line → Input → ℕ

@@ -8,7 +8,7 @@ use Rattle.bits.specs.Choice.{if_then_else_}
 use Rattle.line.specs.State.{newLine, sentOf, ledRunsOf, isValueOf}
 use Rattle.line.specs.Poll.{pollOf}
 use Rattle.line.specs.Reply.{acknowledgeOf, resendOf, timeOutOf}
-use Rattle.line.specs.Inputs.{Input, poll, acknowledge, resend, timeOut, restart, waitRate, after, afterAll, sentAt}
+use Rattle.line.specs.Inputs.{Input, poll, acknowledge, resend, timeOut, restart, waitRate, lineAfter, lineAfterAll, sentAt}
 use Rattle.line.specs.declared.Kind.the-variants.{Led}
 use Rattle.line.specs.declared.Command.{Command}
 use Rattle.line.specs.declared.Phase.{Phase}
@@ -37,11 +37,11 @@ Within line = WithinIn (line .phase)
 
 -- from a new line on no byte is sent more than three times; SendCounts says that the count is a true one
 abbrev pub ThreeSends : Type 0
-ThreeSends = (inputs : List Input) → Within (afterAll newLine inputs)
+ThreeSends = (inputs : List Input) → Within (lineAfterAll newLine inputs)
 
 -- and no command sends more than six bytes; TrueCounts says the same of this count
 abbrev pub SixBytes : Type 0
-SixBytes = (inputs : List Input) (input : Input) → sentAt (afterAll newLine inputs) input ≤ 6
+SixBytes = (inputs : List Input) (input : Input) → sentAt (lineAfterAll newLine inputs) input ≤ 6
 
 -- bytes that an answer sends
 abbrev pub sendsBy : Answer → ℕ
@@ -124,7 +124,7 @@ AllStanding value (input ∷ inputs) = Standing value input × AllStanding value
 -- a settled value stays so while the locks stand
 abbrev pub StaysSettled : Type 0
 StaysSettled =
-    (value : ℕ) (line : Line) (inputs : List Input) → AllStanding value inputs → Settled value line → Settled value (afterAll line inputs)
+    (value : ℕ) (line : Line) (inputs : List Input) → AllStanding value inputs → Settled value line → Settled value (lineAfterAll line inputs)
 
 -- and an idle poll then sends no ED
 abbrev pub NoSecondStart : Type 0
@@ -135,7 +135,7 @@ abbrev pub NotStartedAgain : Type 0
 NotStartedAgain =
     (line : Line) (command : Command) → line .phase ≡ Awaiting command → command .kind ≡ Led → 3 ≤ command .sends →
     (inputs : List Input) → AllStanding (command .value) inputs →
-    (ledRunsOf (afterAll (resendOf line .line) inputs) ≡ false) × (ledRunsOf (afterAll (timeOutOf line .line) inputs) ≡ false)
+    (ledRunsOf (lineAfterAll (resendOf line .line) inputs) ≡ false) × (ledRunsOf (lineAfterAll (timeOutOf line .line) inputs) ≡ false)
 
 -- ---- 3. the operand is the value fixed at the start
 
@@ -158,7 +158,7 @@ KeepsIn (Ready command) later = HoldsIn command later
 
 -- no input changes the operand of a command that runs, neither a new rate nor a poll after the locks changed
 abbrev pub OperandStays : Type 0
-OperandStays = (line : Line) (input : Input) → KeepsIn (line .phase) (after line input .phase)
+OperandStays = (line : Line) (input : Input) → KeepsIn (line .phase) (lineAfter line input .phase)
 
 -- a LED command starts with the LED value of its first poll, and one send of one byte
 abbrev pub StartsWith : Type 0

@@ -9,9 +9,9 @@ use lib.Seq.{take-all, drop-append-seam}
 use Rattle.events.specs.declared.Event.{Event}
 use Rattle.pack.specs.declared.Read.{Read}
 use Rattle.pack.specs.declared.Read.the-variants as read
-use Rattle.pack.specs.Reading.{limit, firstOf, readOf, refusalOf}
+use Rattle.pack.specs.Reading.{limit, firstOf, readAt, refusalOf}
 use Rattle.pack.specs.Encoding.{encodeEvent, encode}
-use Rattle.pack.specs.Parsing.{Parsed, stopped, after, parseBy, parseFrom, parse}
+use Rattle.pack.specs.Parsing.{Parsed, stopped, eventThen, parseBy, parseFrom, parse}
 use Rattle.pack.specs.Laws.{PartFrom, Stops, EncodingIsRead, PackIsReadWhole, AcceptedIsEncoding, EncodesOneList}
 use Rattle.pack.proofs.Events.{encoded-is-read, end-is-empty}
 use Rattle.pack.proofs.Walk.{by-kind, end-there, event-at, by-next, by-stop, walk}
@@ -36,7 +36,7 @@ reads-back pack before (event ∷ later) small e =
     let from = behind pack before (bytes ++ encode later) small e in
     let read-on = reads-back pack (before ++ bytes) later small (e ∙ sym (append-assoc before bytes (encode later))) in
     walk .next pack (length before) _ event (length bytes) from (encoded-is-read event (encode later)) .parsed
-    ∙ ap (after event) (ap (parseFrom pack) (sym (length-append before bytes)) ∙ read-on)
+    ∙ ap (eventThen event) (ap (parseFrom pack) (sym (length-append before bytes)) ∙ read-on)
 
 pub encoding-is-read : EncodingIsRead
 unfolding parse
@@ -63,14 +63,14 @@ encodes-one-list (event ∷ later) (other ∷ others) e =
 record ReadFrom (pack : List ℕ) (start : ℕ) (parsed : Parsed) : Type 0 where
   within : parsed .end ≤ length pack
   encoded : take (parsed .end) pack ≡ take start pack ++ encode (parsed .events)
-  stops : Stops (readOf pack (parsed .end))
-  refusal : parsed .refusal ≡ refusalOf (readOf pack (parsed .end))
+  stops : Stops (readAt pack (parsed .end))
+  refusal : parsed .refusal ≡ refusalOf (readAt pack (parsed .end))
 
 read-from : (n : ℕ) (pack : List ℕ) (start : ℕ) → start ≤ length pack → length pack - start < n → ReadFrom pack start (parseBy n pack start)
 unfolding encode
 read-from zero pack start h l = absurd (omega arith)
 read-from (suc n) pack start h l =
-    by-kind (readOf pack start)
+    by-kind (readAt pack start)
     (λ event bytes e.
     let at = event-at pack start event bytes e in
     let later = read-from n pack (start + bytes) (at .within) (omega arith) in
@@ -107,5 +107,5 @@ pub accepted-is-encoding : AcceptedIsEncoding
 accepted-is-encoding pack e =
     let whole = pack-is-read-whole pack in
     let end = parse pack .end in
-    let none = end-is-empty (drop end pack) (end-there pack end (ended (readOf pack end) (whole .stops) (sym (whole .refusal) ∙ e))) in
+    let none = end-is-empty (drop end pack) (end-there pack end (ended (readAt pack end) (whole .stops) (sym (whole .refusal) ∙ e))) in
     sym (take-all end pack (omega (arith, ap length none, length-drop end pack))) ∙ whole .encoded

@@ -13,7 +13,7 @@ use Rattle.bits.specs.Choice.{if_then_else_}
 use Rattle.events.specs.declared.Event.the-variants.{Key, Call}
 use Rattle.pack.specs.declared.Read.{Read}
 use Rattle.pack.specs.declared.Read.the-variants as read
-use Rattle.pack.specs.Reading.{limit, keyOf, callOf, taggedOf, firstOf, readOf, restOf}
+use Rattle.pack.specs.Reading.{limit, keyOf, callOf, taggedOf, firstOf, readAt, restOf}
 use Rattle.pack.specs.Laws.{Stops}
 use Rattle.pack.proofs.Read as declared
 
@@ -52,16 +52,16 @@ unfolding firstOf
 first-some [] some = absurd (omega arith)
 first-some (tag ∷ operands) some = refl
 
-pub read-too-long : (pack : List ℕ) (start : ℕ) → limit < length pack → readOf pack start ≡ read.TooLong
-unfolding readOf if_then_else_
+pub read-too-long : (pack : List ℕ) (start : ℕ) → limit < length pack → readAt pack start ≡ read.TooLong
+unfolding readAt if_then_else_
 read-too-long pack start long = simp (lt-ltb limit (length pack) long)
 
-pub read-beyond : (pack : List ℕ) (start : ℕ) → length pack ≤ limit → length pack < start → readOf pack start ≡ read.Beyond
-unfolding readOf if_then_else_
+pub read-beyond : (pack : List ℕ) (start : ℕ) → length pack ≤ limit → length pack < start → readAt pack start ≡ read.Beyond
+unfolding readAt if_then_else_
 read-beyond pack start small beyond = simp (le-ltb limit (length pack) small, lt-ltb (length pack) start beyond)
 
-pub read-within : (pack : List ℕ) (start : ℕ) → length pack ≤ limit → start ≤ length pack → readOf pack start ≡ firstOf (drop start pack)
-unfolding readOf if_then_else_
+pub read-within : (pack : List ℕ) (start : ℕ) → length pack ≤ limit → start ≤ length pack → readAt pack start ≡ firstOf (drop start pack)
+unfolding readAt if_then_else_
 read-within pack start small within = simp (le-ltb limit (length pack) small, le-ltb (length pack) start within)
 
 -- the variants after the first are no event

@@ -10,9 +10,9 @@ use Rattle.bits.proofs.Choice.{either}
 use Rattle.events.specs.declared.Event.{Event}
 use Rattle.pack.specs.declared.Read.{Read}
 use Rattle.pack.specs.declared.Read.the-variants as read
-use Rattle.pack.specs.Reading.{firstOf, readOf, refusalOf}
+use Rattle.pack.specs.Reading.{firstOf, readAt, refusalOf}
 use Rattle.pack.specs.Encoding.{encodeEvent}
-use Rattle.pack.specs.Parsing.{Parsed, stopped, after, onRead, parseBy, parseFrom, parse}
+use Rattle.pack.specs.Parsing.{Parsed, stopped, eventThen, onRead, parseBy, parseFrom, parse}
 use Rattle.pack.specs.Laws.{PartFrom, Stops, Walk, TooLongIsRefused}
 use Rattle.pack.proofs.Reading.{read-too-long, read-within}
 use Rattle.pack.proofs.Events.{read-is-encoded}
@@ -34,14 +34,14 @@ on-stop read.TooLong start from none = refl
 on-stop read.Beyond start from none = refl
 
 -- an event or the end that is read at a start stands first in the part from there on
-event-there : (pack : List ℕ) (start : ℕ) (event : Event) (bytes : ℕ) → readOf pack start ≡ read.Event event bytes → firstOf (drop start pack) ≡ read.Event event bytes
-unfolding readOf
+event-there : (pack : List ℕ) (start : ℕ) (event : Event) (bytes : ℕ) → readAt pack start ≡ read.Event event bytes → firstOf (drop start pack) ≡ read.Event event bytes
+unfolding readAt
 event-there pack start event bytes =
     let Is : Read → Type 0 = λ found. found ≡ read.Event event bytes → firstOf (drop start pack) ≡ read.Event event bytes in
     either Is _ _ _ (λ e. cc) (either Is _ _ _ (λ e. cc) (λ e. e))
 
-pub end-there : (pack : List ℕ) (start : ℕ) → readOf pack start ≡ read.End → firstOf (drop start pack) ≡ read.End
-unfolding readOf
+pub end-there : (pack : List ℕ) (start : ℕ) → readAt pack start ≡ read.End → firstOf (drop start pack) ≡ read.End
+unfolding readAt
 end-there pack start =
     let Is : Read → Type 0 = λ found. found ≡ read.End → firstOf (drop start pack) ≡ read.End in
     either Is _ _ _ (λ e. cc) (either Is _ _ _ (λ e. cc) (λ e. e))
@@ -52,7 +52,7 @@ pub record EventAt (pack : List ℕ) (start : ℕ) (event : Event) (bytes : ℕ)
   pub within : start + bytes ≤ length pack
   pub encoded : take (start + bytes) pack ≡ take start pack ++ encodeEvent event
 
-pub event-at : (pack : List ℕ) (start : ℕ) (event : Event) (bytes : ℕ) → readOf pack start ≡ read.Event event bytes → EventAt pack start event bytes
+pub event-at : (pack : List ℕ) (start : ℕ) (event : Event) (bytes : ℕ) → readAt pack start ≡ read.Event event bytes → EventAt pack start event bytes
 event-at pack start event bytes e =
     let first = read-is-encoded (drop start pack) event bytes (event-there pack start event bytes e) in
     record {
@@ -61,37 +61,37 @@ event-at pack start event bytes e =
       encoded = take-add start bytes pack ∙ rw (first .encoded);
     }
 
-pub by-next : (n : ℕ) (pack : List ℕ) (start : ℕ) (event : Event) (bytes : ℕ) → readOf pack start ≡ read.Event event bytes
-    → parseBy (suc n) pack start ≡ after event (parseBy n pack (start + bytes))
+pub by-next : (n : ℕ) (pack : List ℕ) (start : ℕ) (event : Event) (bytes : ℕ) → readAt pack start ≡ read.Event event bytes
+    → parseBy (suc n) pack start ≡ eventThen event (parseBy n pack (start + bytes))
 unfolding parseBy
 by-next n pack start event bytes e = rw e
 
-pub by-stop : (n : ℕ) (pack : List ℕ) (start : ℕ) → Stops (readOf pack start) → parseBy (suc n) pack start ≡ stopped start (refusalOf (readOf pack start))
+pub by-stop : (n : ℕ) (pack : List ℕ) (start : ℕ) → Stops (readAt pack start) → parseBy (suc n) pack start ≡ stopped start (refusalOf (readAt pack start))
 unfolding parseBy
-by-stop n pack start none = on-stop (readOf pack start) start (parseBy n pack) none
+by-stop n pack start none = on-stop (readAt pack start) start (parseBy n pack) none
 
 -- more readings than bytes are left find the same
 enough : (n m : ℕ) (pack : List ℕ) (start : ℕ) → length pack - start < n → length pack - start < m → parseBy n pack start ≡ parseBy m pack start
 enough zero m pack start h k = absurd (omega arith)
 enough (suc n) zero pack start h k = absurd (omega arith)
 enough (suc n) (suc m) pack start h k =
-    by-kind (readOf pack start)
+    by-kind (readAt pack start)
     (λ event bytes e.
     let at = event-at pack start event bytes e in
     by-next n pack start event bytes e
-    ∙ ap (after event) (enough n m pack (start + bytes) (omega arith) (omega arith))
+    ∙ ap (eventThen event) (enough n m pack (start + bytes) (omega arith) (omega arith))
     ∙ sym (by-next m pack start event bytes e))
     (λ none. by-stop n pack start none ∙ sym (by-stop m pack start none))
 
-from-next : (pack : List ℕ) (start : ℕ) (event : Event) (bytes : ℕ) → readOf pack start ≡ read.Event event bytes
-    → parseFrom pack start ≡ after event (parseFrom pack (start + bytes))
+from-next : (pack : List ℕ) (start : ℕ) (event : Event) (bytes : ℕ) → readAt pack start ≡ read.Event event bytes
+    → parseFrom pack start ≡ eventThen event (parseFrom pack (start + bytes))
 unfolding parseFrom
 from-next pack start event bytes e =
     let at = event-at pack start event bytes e in
     by-next (length pack - start) pack start event bytes e
-    ∙ ap (after event) (enough (length pack - start) (suc (length pack - (start + bytes))) pack (start + bytes) (omega arith) (omega arith))
+    ∙ ap (eventThen event) (enough (length pack - start) (suc (length pack - (start + bytes))) pack (start + bytes) (omega arith) (omega arith))
 
-agrees : (pack : List ℕ) (start : ℕ) (part : List ℕ) → PartFrom pack start part → readOf pack start ≡ firstOf part
+agrees : (pack : List ℕ) (start : ℕ) (part : List ℕ) → PartFrom pack start part → readAt pack start ≡ firstOf part
 agrees pack start part from = rw (from .same) (read-within pack start (from .limited) (omega arith))
 
 pub walk : Walk

@@ -7,9 +7,9 @@ use lib.ListN.{length, take, drop}
 use Rattle.events.specs.declared.Event.{Event}
 use Rattle.pack.specs.declared.Read.{Read}
 use Rattle.pack.specs.declared.Read.the-variants as read
-use Rattle.pack.specs.Reading.{limit, firstOf, readOf, restOf, refusalOf}
+use Rattle.pack.specs.Reading.{limit, firstOf, readAt, restOf, refusalOf}
 use Rattle.pack.specs.Encoding.{encodeEvent, encode}
-use Rattle.pack.specs.Parsing.{stopped, after, parseFrom, parse}
+use Rattle.pack.specs.Parsing.{stopped, eventThen, parseFrom, parse}
 
 -- One event.
 
@@ -47,11 +47,11 @@ Stops read.Beyond = Unit {0}
 -- behind an event the part handed on is again the pack's from there on, and the event stands before what is read there
 pub record GoesOn (pack : List ℕ) (start : ℕ) (part : List ℕ) (event : Event) (bytes : ℕ) : Type 0 where
   pub rest : PartFrom pack (start + bytes) (drop bytes part)
-  pub parsed : parseFrom pack start ≡ after event (parseFrom pack (start + bytes))
+  pub parsed : parseFrom pack start ≡ eventThen event (parseFrom pack (start + bytes))
 
 pub record Walk : Type 0 where
   pub starts : (pack : List ℕ) (start : ℕ) → length pack ≤ limit → start ≤ length pack → PartFrom pack start (drop start pack)
-  pub agrees : (pack : List ℕ) (start : ℕ) (part : List ℕ) → PartFrom pack start part → readOf pack start ≡ firstOf part
+  pub agrees : (pack : List ℕ) (start : ℕ) (part : List ℕ) → PartFrom pack start part → readAt pack start ≡ firstOf part
   pub next : (pack : List ℕ) (start : ℕ) (part : List ℕ) (event : Event) (bytes : ℕ)
       → PartFrom pack start part → firstOf part ≡ read.Event event bytes → GoesOn pack start part event bytes
   pub stops : (pack : List ℕ) (start : ℕ) (part : List ℕ)
@@ -78,8 +78,8 @@ pub record ReadWhole (pack : List ℕ) : Type 0 where
   pub within : parse pack .end ≤ length pack
   pub encoded : take (parse pack .end) pack ≡ encode (parse pack .events)
   pub one : (events : List Event) → take (parse pack .end) pack ≡ encode events → parse pack .events ≡ events
-  pub stops : Stops (readOf pack (parse pack .end))
-  pub refusal : parse pack .refusal ≡ refusalOf (readOf pack (parse pack .end))
+  pub stops : Stops (readAt pack (parse pack .end))
+  pub refusal : parse pack .refusal ≡ refusalOf (readAt pack (parse pack .end))
 
 abbrev pub PackIsReadWhole : Type 0
 PackIsReadWhole = (pack : List ℕ) → ReadWhole pack

@@ -61,8 +61,8 @@ firstOf [] = read.End
 firstOf (tag ∷ operands) = taggedOf tag operands
 
 -- the event at a start in a pack; refusal 8 before 10, and the start at the length is the end
-unfoldable pub readOf : List ℕ → ℕ → Read
-readOf pack start =
+unfoldable pub readAt : List ℕ → ℕ → Read
+readAt pack start =
     if ltb limit (length pack) then read.TooLong
     else if ltb (length pack) start then read.Beyond
     else firstOf (drop start pack)

@@ -1,6 +1,6 @@
 // Packs: one event is read from a part of a pack, and the part after it is handed on.
 ghost use mathlib.Core.Path.{_≡_};
-ghost use Rattle.pack.specs.Reading.{keyOf, callOf, taggedOf, firstOf, readOf, restOf, refusalOf};
+ghost use Rattle.pack.specs.Reading.{keyOf, callOf, taggedOf, firstOf, readAt, restOf, refusalOf};
 use events::Event;
 
 // The most bytes that a pack may have.
@@ -105,7 +105,7 @@ pub fn read_first(part: &[u8]) -> Read
 
 // The event at a start in a pack.
 pub fn read_event(pack: &[u8], start: usize) -> Read
-    ensures { λ r. ⌜ r ≡ readOf (now (pack .entry)) start ⌝ }
+    ensures { λ r. ⌜ r ≡ readAt (now (pack .entry)) start ⌝ }
 {
     if LIMIT < pack.len() {
         return Read::TooLong;

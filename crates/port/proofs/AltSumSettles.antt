@@ -20,7 +20,7 @@ use Rattle.port.specs.declared.Effect.the-variants.{Nothing}
 use Rattle.port.specs.declared.Digit.{Digit}
 use Rattle.port.specs.declared.Digit.the-variants.{NoDigit, Is}
 use Rattle.port.specs.State.{eitherSide, withSum, resultOf}
-use Rattle.port.specs.Prefix.{readOf}
+use Rattle.port.specs.Prefix.{readingOf}
 use Rattle.port.specs.Flags.{bare, afterE0, tracked, modifiersAfter, flagsPort, flagsShared, flagsChanged}
 use Rattle.port.specs.AltEntry.{altDigit, altEnded}
 use Rattle.port.specs.Makes.{wordPut, entryPut, typed, counted, entered, madeOf, entryFor}
@@ -138,7 +138,7 @@ unfolding keyByteOf flagsChanged
 alt-sum-settles =
     record {
       new = record { zero = λ _. refl };
-      kept = λ port shared byte h. on-reading-leaves (readOf (port .prefix) byte) port shared h .port;
+      kept = λ port shared byte h. on-reading-leaves (readingOf (port .prefix) byte) port shared h .port;
       agree =
           λ port shared code h.
           readings-agree (eqb (code .byte) 0xB8 && not (eitherSide (modifiersAfter (port .modifiers) code .alt))) (eitherSide (port .modifiers .alt)) _ _

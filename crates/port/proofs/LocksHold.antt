@@ -24,7 +24,7 @@ use Rattle.port.specs.declared.Effect.{Effect}
 use Rattle.port.specs.declared.Digit.{Digit}
 use Rattle.port.specs.declared.Digit.the-variants.{NoDigit, Is}
 use Rattle.port.specs.State.{eitherSide, withPrefix, withSum, resultOf}
-use Rattle.port.specs.Prefix.{opened, continued, readOf}
+use Rattle.port.specs.Prefix.{opened, continued, readingOf}
 use Rattle.port.specs.Flags.{toggled, bare, locksAfter, flagsChanged}
 use Rattle.port.specs.AltEntry.{altDigit, altEnded}
 use Rattle.port.specs.Makes.{isInsert, wordPut, entryPut, typed, counted, entered, madeOf, entryFor}
@@ -117,10 +117,10 @@ is-itself byte PauseEnds = true
 is-itself byte (Key code) = eqb byte (code .byte)
 
 abbrev reads-itself : Prefix → ℕ → Bool
-reads-itself prefix byte = is-itself byte (readOf prefix byte)
+reads-itself prefix byte = is-itself byte (readingOf prefix byte)
 
 read-test : (prefix : Prefix) → T (allBelow (reads-itself prefix) 256)
-unfolding readOf continued opened if_then_else_
+unfolding readingOf continued opened if_then_else_
 read-test Closed = tt
 read-test E0 = tt
 read-test E1 = tt
@@ -143,5 +143,5 @@ locks-hold =
     record {
       kept =
           λ port shared byte h.
-          on-reading-keeps byte (readOf (port .prefix) byte) port shared (below (reads-itself (port .prefix)) 256 (read-test (port .prefix)) byte h);
+          on-reading-keeps byte (readingOf (port .prefix) byte) port shared (below (reads-itself (port .prefix)) 256 (read-test (port .prefix)) byte h);
     }

@@ -12,7 +12,7 @@ use Rattle.port.specs.declared.Reading.the-variants.{Overrun, Opens, Pau
 use Rattle.port.specs.declared.Port.{Port}
 use Rattle.port.specs.declared.Shared.{Shared}
 use Rattle.port.specs.State.{withPrefix}
-use Rattle.port.specs.Prefix.{at, pause, pauseBreak, continued, readOf}
+use Rattle.port.specs.Prefix.{at, pause, pauseBreak, continued, readingOf}
 use Rattle.port.specs.KeyByte.{onReading, keyByteOf}
 use Rattle.port.proofs.Disjunction.{or-false}
 use Rattle.port.specs.Laws.{fits, NothingSwallowed}
@@ -36,11 +36,11 @@ done-alike PauseEnds port shared = refl
 done-alike (Key code) port shared = refl
 
 pub nothing-swallowed : NothingSwallowed
-unfolding keyByteOf readOf
+unfolding keyByteOf readingOf
 nothing-swallowed =
     record {
       read =
           λ port shared byte e.
           ap (λ (r : Reading). onReading (if eqb byte 0x00 || eqb byte 0xFF then Overrun else r) port shared) (read-alike (port .prefix) byte e)
-          ∙ done-alike (readOf Closed byte) port shared;
+          ∙ done-alike (readingOf Closed byte) port shared;
     }

@@ -13,7 +13,7 @@ use Rattle.port.specs.declared.Shared.{Shared}
 use Rattle.port.specs.declared.Decoded.{Decoded}
 use Rattle.port.specs.declared.Effect.the-variants.{Nothing, Overrun}
 use Rattle.port.specs.State.{resultOf, withPrefix, withPaused}
-use Rattle.port.specs.Prefix.{readOf}
+use Rattle.port.specs.Prefix.{readingOf}
 use Rattle.port.specs.Flags.{flagsChanged}
 use Rattle.port.specs.Makes.{entryFor, madeOf}
 
@@ -34,4 +34,4 @@ onReading reading.PauseEnds port shared = resultOf (withPrefix port Closed) shar
 onReading (reading.Key code) port shared = codeRead (withPrefix port Closed) shared code
 
 unfoldable pub keyByteOf : Port → Shared → ℕ → Decoded
-keyByteOf port shared byte = onReading (readOf (port .prefix) byte) port shared
+keyByteOf port shared byte = onReading (readingOf (port .prefix) byte) port shared

@@ -16,7 +16,7 @@ use Rattle.port.specs.declared.Port.{Port}
 use Rattle.port.specs.declared.Locks.{Locks}
 use Rattle.port.specs.declared.Shared.{Shared}
 use Rattle.port.specs.declared.Decoded.{Decoded}
-use Rattle.port.specs.declared.Effect.the-variants.{Nothing, Put, Break, Restart}
+use Rattle.port.specs.declared.Effect.the-variants.{Nothing, Put, Break, RestartAsked}
 use Rattle.port.specs.declared.Digit.{Digit}
 use Rattle.port.specs.declared.Digit.the-variants.{NoDigit, Is}
 use Rattle.port.specs.State.{eitherSide, resultOf, withSum, withPaused}
@@ -74,6 +74,6 @@ entered port shared code entry = counted (altDigit (eitherSide (port .modifiers 
 -- step 5: restart asked; step 6: a pause ends and the make does nothing else
 unfoldable pub madeOf : Port → Shared → Code → Entry → Decoded
 madeOf port shared code entry =
-    if eqb (code .byte) 0x53 && eitherSide (port .modifiers .ctrl) && eitherSide (port .modifiers .alt) then resultOf port shared Restart
+    if eqb (code .byte) 0x53 && eitherSide (port .modifiers .ctrl) && eitherSide (port .modifiers .alt) then resultOf port shared RestartAsked
     else if shared .paused then resultOf port (withPaused shared false) Nothing
     else entered port shared code entry

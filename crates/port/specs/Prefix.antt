@@ -41,5 +41,5 @@ continued E1Make byte = if eqb byte (at 2 pause) then Pauses else opened false b
 continued E1Break byte = if eqb byte (at 2 pauseBreak) then PauseEnds else opened false byte
 
 -- overrun comes first
-unfoldable pub readOf : Prefix → ℕ → Reading
-readOf prefix byte = if eqb byte 0x00 || eqb byte 0xFF then Overrun else continued prefix byte
+unfoldable pub readingOf : Prefix → ℕ → Reading
+readingOf prefix byte = if eqb byte 0x00 || eqb byte 0xFF then Overrun else continued prefix byte

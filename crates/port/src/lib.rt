@@ -59,7 +59,7 @@ pub enum Effect {
     Nothing,
     Put(Word),
     Break,
-    Restart,
+    RestartAsked,
     Overrun,
 }
 

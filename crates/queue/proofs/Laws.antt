@@ -14,7 +14,7 @@ use Rattle.word.specs.declared.Word.{Word}
 use Rattle.queue.specs.declared.Queue.{Queue}
 use Rattle.queue.specs.declared.AfterPut.{AfterPut}
 use Rattle.queue.specs.Queue.{capacity, heldIn, emptyQueue, putOf, restOf, takeOf}
-use Rattle.queue.specs.Words.{wordsOf, Whole, AtMostFifteen, EmptyHoldsNone, PutAppends, PutDrops, TakeRemoves, TakeOfNone, StaysWhole, putIn, PutAsListed, TakeAsListed, AsListed}
+use Rattle.queue.specs.Words.{wordsOf, Whole, AtMostCapacity, EmptyHoldsNone, PutAppends, PutDrops, TakeRemoves, TakeOfNone, StaysWhole, putIn, PutAsListed, TakeAsListed, AsListed}
 use Rattle.queue.proofs.Calls.{put-room, put-full, oldest-none, oldest-some, rest-none, rest-some}
 use Rattle.queue.proofs.Ring.{words-length, words-longer, words-split}
 
@@ -22,8 +22,8 @@ use Rattle.queue.proofs.Ring.{words-length, words-longer, words-split}
 holds : {words : List Word} (queue : Queue) → wordsOf queue ≡ words → heldIn queue ≡ length words
 holds queue e = sym (words-length queue) ∙ ap length e
 
-pub at-most-fifteen : AtMostFifteen
-at-most-fifteen queue = omega (arith, words-length queue)
+pub at-most-capacity : AtMostCapacity
+at-most-capacity queue = omega (arith, words-length queue)
 
 pub empty-holds-none : EmptyHoldsNone
 unfolding emptyQueue wordsOf
@@ -80,7 +80,7 @@ pub as-listed : AsListed
 unfolding takeOf
 as-listed =
     record {
-      put = λ queue word whole. ⊎-elim (listed-drop queue word) (listed-append queue word whole) (eq-or-lt-of-le (at-most-fifteen queue));
+      put = λ queue word whole. ⊎-elim (listed-drop queue word) (listed-append queue word whole) (eq-or-lt-of-le (at-most-capacity queue));
       first = λ queue. listed-take queue (wordsOf queue) refl .oldest;
       take = λ queue. listed-take queue (wordsOf queue) refl;
     }

@@ -27,8 +27,8 @@ pub record Whole (queue : Queue) : Type 0 where
   pub places : length (queue .words) ≡ capacity
 
 -- a queue never holds more than 15 words
-abbrev pub AtMostFifteen : Type 0
-AtMostFifteen = (queue : Queue) → length (wordsOf queue) ≤ capacity
+abbrev pub AtMostCapacity : Type 0
+AtMostCapacity = (queue : Queue) → length (wordsOf queue) ≤ capacity
 
 -- the empty queue holds none
 abbrev pub EmptyHoldsNone : Type 0

@@ -11,7 +11,7 @@ use Rattle.events.specs.declared.Event.the-variants.{Key, Call, Poll, TimeOut, 
 use Rattle.report.specs.Report.{tagOf, reportOf}
 use Rattle.digits.specs.Digits.{digitOf}
 use Rattle.report.specs.Text.{textOf}
-use Rattle.report.specs.TextLaws.{TextLengths, isPrintable, isLineFeed, TextReadable, valueOf, readOf, ReadBack, TextDetermines}
+use Rattle.report.specs.TextLaws.{TextLengths, isPrintable, isLineFeed, TextReadable, valueOf, reportRead, ReadBack, TextDetermines}
 use Rattle.report.proofs.DigitFacts.{digit-printable, digit-no-line-feed, digit-value}
 
 pub text-lengths : TextLengths
@@ -39,7 +39,7 @@ byte-value : (byte : ℕ) → byte < 0x100 → valueOf (digitOf (byte / 16)) * 1
 byte-value byte h = omega (arith, digit-value (byte / 16), digit-value byte)
 
 pub read-back : ReadBack
-unfolding textOf readOf
+unfolding textOf reportRead
 read-back report h =
     let high = byte-value (report .word / 0x100) (omega arith) in
     let low = byte-value (report .word % 0x100) (omega arith) in
@@ -47,4 +47,4 @@ read-back report h =
     simp (byte-value (report .ans) (h .ans), high, low, div-add-mod' (report .word) 0x100, byte-value (report .byte17) (h .byte17), byte-value (report .byte18) (h .byte18), byte-value (report .byte96) (h .byte96), byte-value (report .byte97) (h .byte97), sent)
 
 pub text-determines : TextDetermines
-text-determines a b in-a in-b e = sym (read-back a in-a) ∙ ap readOf e ∙ read-back b in-b
+text-determines a b in-a in-b e = sym (read-back a in-a) ∙ ap reportRead e ∙ read-back b in-b

@@ -61,8 +61,8 @@ abbrev pub byteAt : List ℕ → ℕ → ℕ
 byteAt text place = valueAt text place * 16 + valueAt text (place + 1)
 
 -- the report that a text shows
-unfoldable pub readOf : List ℕ → Report
-readOf text =
+unfoldable pub reportRead : List ℕ → Report
+reportRead text =
     record {
       tag = getD text 3 0;
       ans = byteAt text 9;
@@ -86,7 +86,7 @@ pub record InRange (report : Report) : Type 0 where
 
 -- a report comes back from its text
 abbrev pub ReadBack : Type 0
-ReadBack = (report : Report) → InRange report → readOf (textOf report) ≡ report
+ReadBack = (report : Report) → InRange report → reportRead (textOf report) ≡ report
 
 -- so that no two reports have one text
 abbrev pub TextDetermines : Type 0

@@ -1,5 +1,5 @@
 // The report of an event: what it shows, the definitions of its text and of the call that writes it, and what holds of them. The code of that
-// call is in `text` and `reporter`.
+// call is in `report_text` and `report_call`.
 ghost use mathlib.Core.Path.{_≡_};
 ghost use Rattle.report.specs.Report.{tagOf, reportOf};
 use events::Event;

@@ -60,7 +60,7 @@ pub fn empty(service: Service) -> Outcome
     ensures { λ r. ⌜ r ≡ emptyOf service ⌝ }
 {
     let next = state::with_queue(service, queue::empty());
-    outcomes::answered(next, Answer::Done)
+    events_outcomes::answered(next, Answer::Done)
 }
 
 // One event.
@@ -68,11 +68,11 @@ pub fn step(service: Service, event: Event) -> Outcome
     ensures { λ r. ⌜ r ≡ stepOf service event ⌝ }
 {
     match event {
-        Event::Key(byte) => keyboard::key(service, byte),
-        Event::Call(function, a, b) => functions::call(service, function, a, b),
-        Event::Poll => commands::poll(service),
-        Event::TimeOut => commands::time_out(service),
+        Event::Key(byte) => events_keyboard::key(service, byte),
+        Event::Call(function, a, b) => events_functions::call(service, function, a, b),
+        Event::Poll => events_commands::poll(service),
+        Event::TimeOut => events_commands::time_out(service),
         Event::Empty => empty(service),
-        Event::Restart => commands::restart(service),
+        Event::Restart => events_commands::restart(service),
     }
 }

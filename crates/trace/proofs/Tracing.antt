@@ -19,7 +19,7 @@ use Rattle.pack.proofs.Walk.{walk, too-long-is-refused}
 use Rattle.report.specs.Text.{textOf}
 use Rattle.report.specs.Reported.{eventReport}
 use Rattle.report.proofs.TextLaws.{text-lengths}
-use Rattle.trace.specs.Trace.{closingOf, shownOf, traceOf, tracedOf}
+use Rattle.trace.specs.Trace.{closingOf, printedOf, traceOf, tracedOf}
 use Rattle.trace.proofs.Writing.{placed, placed-length, placed-take, placed-drop}
 
 closing-length : (end refusal : ℕ) → length (closingOf end refusal) ≡ 19
@@ -29,13 +29,13 @@ closing-length end refusal = refl
 -- what the rest of a pack shows: an event's report before what follows it, and the closing lines where reading stops
 shown-event : (service : Service) (event : Event) (pack : List ℕ) (offset bytes : ℕ) (part : List ℕ)
     → PartFrom pack offset part → firstOf part ≡ read.Event event bytes
-    → shownOf service (parseFrom pack offset) ≡ textOf (eventReport service event) ++ shownOf (next service event) (parseFrom pack (offset + bytes))
-unfolding shownOf
+    → printedOf service (parseFrom pack offset) ≡ textOf (eventReport service event) ++ printedOf (next service event) (parseFrom pack (offset + bytes))
+unfolding printedOf
 shown-event service event pack offset bytes part p found = rw (walk .next pack offset part event bytes p found .parsed, append-assoc)
 
 shown-stop : (service : Service) (pack : List ℕ) (offset : ℕ) (part : List ℕ) → PartFrom pack offset part → Stops (firstOf part)
-    → shownOf service (parseFrom pack offset) ≡ closingOf offset (refusalOf (firstOf part))
-unfolding shownOf
+    → printedOf service (parseFrom pack offset) ≡ closingOf offset (refusalOf (firstOf part))
+unfolding printedOf
 shown-stop service pack offset part p h = rw (walk .stops pack offset part p h)
 
 -- the loop between two events
@@ -43,7 +43,7 @@ pub record Yet (pack text₀ text : List ℕ) (service : Service) (offset at : �
   pub rest : PartFrom pack offset part
   pub room : at + 44 * length part + 19 ≤ length text
   pub size : length text ≡ length text₀
-  pub whole : traceOf pack ≡ take at text ++ shownOf service (parseFrom pack offset)
+  pub whole : traceOf pack ≡ take at text ++ printedOf service (parseFrom pack offset)
   pub tail : drop at text ≡ drop at text₀
 
 -- what lies behind a later place is as it was, too
@@ -62,9 +62,9 @@ traced pack text₀ n l e = rw l e
 -- a pack that is too long: the closing lines alone
 pub refused-whole : (pack text text′ : List ℕ) → limit < length pack → text′ ≡ placed 0 19 (closingOf 0 8) text
     → (0 + 19 ≡ length (traceOf pack)) × (text′ ≡ tracedOf pack text)
-unfolding traceOf shownOf
+unfolding traceOf printedOf
 refused-whole pack text text′ h e =
-    let whole : traceOf pack ≡ closingOf 0 8 = ap (shownOf (newService 0)) (too-long-is-refused pack h) in
+    let whole : traceOf pack ≡ closingOf 0 8 = ap (printedOf (newService 0)) (too-long-is-refused pack h) in
     let size : length (traceOf pack) ≡ 19 = ap length whole ∙ closing-length 0 8 in
     (sym size, traced pack text 19 size (e ∙ rw whole))
 

@@ -22,12 +22,12 @@ unfoldable pub closingOf : ℕ → ℕ → List ℕ
 closingOf end refusal = endLine end ++ refusedLine refusal
 
 -- the reports of the events read, then where reading ended and the refusal that ended it
-unfoldable pub shownOf : Service → Parsed → List ℕ
-shownOf service parsed = textsOf service (parsed .events) ++ closingOf (parsed .end) (parsed .refusal)
+unfoldable pub printedOf : Service → Parsed → List ℕ
+printedOf service parsed = textsOf service (parsed .events) ++ closingOf (parsed .end) (parsed .refusal)
 
 -- the text of a pack, from locks 0
 unfoldable pub traceOf : List ℕ → List ℕ
-traceOf pack = shownOf (newService 0) (parse pack)
+traceOf pack = printedOf (newService 0) (parse pack)
 
 -- a buffer with that text at its start and what was behind it
 unfoldable pub tracedOf : List ℕ → List ℕ → List ℕ

@@ -53,7 +53,7 @@ fn report_at(service: Service, event: Event, text: &mut [u8], at: usize) -> Serv
     ensures { λ r. ⌜ r ≡ next service event ⌝ }
     ensures { λ _. ⌜ now (text .exit) ≡ take at (now (text .entry)) ++ (textOf (eventReport service event) ++ drop (at + 44) (now (text .entry))) ⌝ }
 {
-    let reported = reporter::report_event(service, event, &mut text[at..]);
+    let reported = report_call::report_event(service, event, &mut text[at..]);
     reported.service
 }
 

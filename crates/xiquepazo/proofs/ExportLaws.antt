@@ -25,19 +25,19 @@ use Rattle.xiquepazo.specs.declared.by_image.Recognised.the-variants as 
 use Rattle.xiquepazo.specs.declared.by_image.Changed.{Changed}
 use Rattle.xiquepazo.specs.declared.by_image.Refused.{Refused}
 use Rattle.image.specs.Image.{imageOf, serviceOf}
-use Rattle.xiquepazo.specs.Exports.{shownOf, stepIn, unknownIn, recognised, taggedIn, triedIn, reportedAs, writtenAs, makeTo}
+use Rattle.xiquepazo.specs.Exports.{shownToC, stepIn, unknownIn, recognised, taggedIn, triedIn, reportedAs, writtenAs, makeTo}
 use Rattle.xiquepazo.specs.ExportLaws.{seen, seenFrom, Follows, ImagesFollow, TagsRecognised, Leaves, UnknownRefused}
 use Rattle.events.proofs.RefusedCalls.{refused-step}
 use Rattle.image.proofs.ImageLaws.{comes-back}
 
 step-follows : (image : Image) (event : Event) → serviceOf (stepIn image event .image) ≡ next (serviceOf image) event
-unfolding stepIn shownOf
+unfolding stepIn shownToC
 step-follows image event =
     by-test (λ (changed : Changed). serviceOf (changed .image) ≡ next (serviceOf image) event) _ _ _
     (λ refused. sym (refused-step (serviceOf image) event refused)) (λ _. comes-back (next (serviceOf image) event))
 
 step-shows : (image : Image) (event : Event) → seen (stepIn image event .shown) ≡ seenOf (stepOf (serviceOf image) event)
-unfolding stepIn shownOf
+unfolding stepIn shownToC
 step-shows image event = by-test (λ (changed : Changed). seen (changed .shown) ≡ seenOf (stepOf (serviceOf image) event)) _ _ _ (λ _. refl) (λ _. refl)
 
 pub images-follow : ImagesFollow
@@ -67,8 +67,8 @@ step-leaves : (image : Image) (event : Event) → ltb 0x7F (stepIn image event .
 unfolding stepIn
 step-leaves image event =
     let outcome : Outcome = stepOf (serviceOf image) event in
-    by-test (λ (changed : Changed). ltb 0x7F (changed .shown .ans) ≡ true → changed .image ≡ image) (ltb 0x7F (shownOf outcome .ans))
-    (record { image = image; shown = shownOf outcome }) (record { image = imageOf (outcome .service); shown = shownOf outcome })
+    by-test (λ (changed : Changed). ltb 0x7F (changed .shown .ans) ≡ true → changed .image ≡ image) (ltb 0x7F (shownToC outcome .ans))
+    (record { image = image; shown = shownToC outcome }) (record { image = imageOf (outcome .service); shown = shownToC outcome })
     (λ _ _. refl) (λ accepted refused. absurd (true≢false (sym refused ∙ accepted)))
 
 tagged-leaves : (image : Image) (event : Recognised) → ltb 0x7F (taggedIn image event .shown .ans) ≡ true → taggedIn image event .image ≡ image

@@ -16,7 +16,7 @@ use Rattle.xiquepazo.proofs.by_image.Changed as Changed
 use Rattle.xiquepazo.proofs.by_image.Changed.Laws as Changed′
 use Rattle.xiquepazo.proofs.by_image.Refused as Refused
 use Rattle.xiquepazo.proofs.by_image.Refused.Laws as Refused′
-use Rattle.lending.proofs.Plain.{Plain, byte, struct, Outcome}
+use Rattle.lent_walks.proofs.Plain.{Plain, byte, struct, Outcome}
 
 abbrev pub image : Plain
 image = struct Image.the-type Image′.the-laws Image′.the-plain

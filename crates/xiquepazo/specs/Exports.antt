@@ -38,14 +38,14 @@ shownWith service ans word sent =
       byte97 = byte97Of service;
     }
 
-unfoldable pub shownOf : Outcome → Shown
-shownOf outcome = shownWith (outcome .service) (ansOf (outcome .answer)) (wordOf (outcome .answer)) (outcome .sent)
+unfoldable pub shownToC : Outcome → Shown
+shownToC outcome = shownWith (outcome .service) (ansOf (outcome .answer)) (wordOf (outcome .answer)) (outcome .sent)
 
 -- the image of the service after an event; a refusal, 80 plus its number, leaves the image
 abbrev pub changedBy : Image → Outcome → Changed
 changedBy image outcome =
-    if ltb 0x7F (shownOf outcome .ans) then record { image = image; shown = shownOf outcome }
-    else record { image = imageOf (outcome .service); shown = shownOf outcome }
+    if ltb 0x7F (shownToC outcome .ans) then record { image = image; shown = shownToC outcome }
+    else record { image = imageOf (outcome .service); shown = shownToC outcome }
 
 unfoldable pub stepIn : Image → Event → Changed
 stepIn image event = changedBy image (stepOf (serviceOf image) event)

@@ -1,6 +1,6 @@
 // What each exported call does, by value: the image that it leaves and what it returns. A refused call leaves every number of the image.
 ghost use mathlib.Core.Path.{_≡_};
-ghost use Rattle.xiquepazo.specs.Exports.{shownWith, shownOf, stepIn, unknownIn, recognised, triedIn, keyTo, callTo, pollTo, eventTo, makeTo, reportIn, writtenIn, reportTo, writtenTo, flagsTo};
+ghost use Rattle.xiquepazo.specs.Exports.{shownWith, shownToC, stepIn, unknownIn, recognised, triedIn, keyTo, callTo, pollTo, eventTo, makeTo, reportIn, writtenIn, reportTo, writtenTo, flagsTo};
 use events::Event;
 use events::Outcome;
 use image::Image;
@@ -66,7 +66,7 @@ fn shown_with(service: Service, ans: u8, word: u16, sent: u8) -> Shown
 }
 
 fn shown_of(outcome: Outcome) -> Shown
-    ensures { λ r. ⌜ r ≡ shownOf outcome ⌝ }
+    ensures { λ r. ⌜ r ≡ shownToC outcome ⌝ }
 {
     let service = outcome.service;
     let answer = outcome.answer;
@@ -172,7 +172,7 @@ pub fn make(image: Image, bits: u8) -> Refused
 fn reported(image: Image, event: Event, buffer: &mut [u8]) -> Refused
     ensures { λ r. ⌜ (r ≡ reportIn image event (now (buffer .entry))) × (now (buffer .exit) ≡ writtenIn image event (now (buffer .entry))) ⌝ }
 {
-    let told = reporter::report_event(image::service_of(image), event, buffer);
+    let told = report_call::report_event(image::service_of(image), event, buffer);
     let after = told.service;
     tried(image, told.refusal, after)
 }

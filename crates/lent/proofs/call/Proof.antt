@@ -2,8 +2,8 @@
 -- Assumes nothing.
 use Rattle.lent.specs.Lent.{callIn}
 use Rattle.lent.proofs.Types.{service, service-name, reply, stepped}
-use Rattle.lending.proofs.Plain.{byte}
-use Rattle.lending.proofs.LentWithThree.{proved}
+use Rattle.lent_walks.proofs.Plain.{byte}
+use Rattle.lent_walks.proofs.LentWithThree.{proved}
 use Rattle.lent.proofs.by_value.call.Symbol as core
 use Rattle.lent.proofs.by_value.call.Met as core-met
 use Rattle.lent.proofs.call.Key as key

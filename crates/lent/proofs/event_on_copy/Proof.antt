@@ -2,7 +2,7 @@
 -- Assumes nothing.
 use Rattle.lent.specs.Lent.{eventIn}
 use Rattle.lent.proofs.Types.{service, service-name, reply, stepped, event}
-use Rattle.lending.proofs.LentCopy.{proved}
+use Rattle.lent_walks.proofs.LentCopy.{proved}
 use Rattle.lent.proofs.by_value.event.Symbol as core
 use Rattle.lent.proofs.event.Symbol as lent
 use Rattle.lent.proofs.event.Met as lent-met

@@ -2,8 +2,8 @@
 -- Assumes nothing.
 use Rattle.lent.specs.Lent.{keyIn}
 use Rattle.lent.proofs.Types.{service, service-name, reply, stepped}
-use Rattle.lending.proofs.Plain.{byte}
-use Rattle.lending.proofs.LentWithOne.{proved}
+use Rattle.lent_walks.proofs.Plain.{byte}
+use Rattle.lent_walks.proofs.LentWithOne.{proved}
 use Rattle.lent.proofs.by_value.key.Symbol as core
 use Rattle.lent.proofs.by_value.key.Met as core-met
 use Rattle.lent.proofs.key.Key as key

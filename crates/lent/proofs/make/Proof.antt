@@ -2,8 +2,8 @@
 -- Assumes nothing.
 use Rattle.lent.specs.Lent.{madeIn}
 use Rattle.lent.proofs.Types.{service, service-name, tried}
-use Rattle.lending.proofs.Plain.{byte}
-use Rattle.lending.proofs.LentWithOne.{proved}
+use Rattle.lent_walks.proofs.Plain.{byte}
+use Rattle.lent_walks.proofs.LentWithOne.{proved}
 use Rattle.lent.proofs.by_value.make.Symbol as core
 use Rattle.lent.proofs.by_value.make.Met as core-met
 use Rattle.lent.proofs.make.Key as key

@@ -2,7 +2,7 @@
 -- Assumes nothing.
 use Rattle.lent.specs.Lent.{pollIn}
 use Rattle.lent.proofs.Types.{service, service-name, reply, stepped}
-use Rattle.lending.proofs.LentAlone.{proved}
+use Rattle.lent_walks.proofs.LentAlone.{proved}
 use Rattle.lent.proofs.by_value.poll.Symbol as core
 use Rattle.lent.proofs.by_value.poll.Met as core-met
 use Rattle.lent.proofs.poll.Key as key

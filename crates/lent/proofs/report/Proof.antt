@@ -3,8 +3,8 @@
 use Rattle.report.specs.Reported.{bufferOf}
 use Rattle.lent.specs.Lent.{reportedIn}
 use Rattle.lent.proofs.Types.{service, service-name, tried, event}
-use Rattle.lending.proofs.Plain.{byte}
-use Rattle.lending.proofs.LentWithBuffer.{proved}
+use Rattle.lent_walks.proofs.Plain.{byte}
+use Rattle.lent_walks.proofs.LentWithBuffer.{proved}
 use Rattle.lent.proofs.by_value.report.Symbol as core
 use Rattle.lent.proofs.by_value.report.Met as core-met
 use Rattle.lent.proofs.report.Key as key

@@ -2,8 +2,8 @@
 -- Assumes nothing.
 use Rattle.xiquepazo.specs.Exports.{callTo}
 use Rattle.xiquepazo.proofs.ImageTypes.{image, image-name, shown, changed}
-use Rattle.lending.proofs.Plain.{byte}
-use Rattle.lending.proofs.LentWithThree.{proved}
+use Rattle.lent_walks.proofs.Plain.{byte}
+use Rattle.lent_walks.proofs.LentWithThree.{proved}
 use Rattle.xiquepazo.proofs.by_image.call.Symbol as core
 use Rattle.xiquepazo.proofs.by_image.call.Met as core-met
 use Rattle.xiquepazo.proofs.xiquepazo_call.Key as key

@@ -2,7 +2,7 @@
 -- Assumes nothing.
 use Rattle.xiquepazo.specs.Exports.{eventTo}
 use Rattle.xiquepazo.proofs.ImageTypes.{image, image-name, shown, changed, tagged}
-use Rattle.lending.proofs.LentWithOne.{proved}
+use Rattle.lent_walks.proofs.LentWithOne.{proved}
 use Rattle.xiquepazo.proofs.by_image.event.Symbol as core
 use Rattle.xiquepazo.proofs.by_image.event.Met as core-met
 use Rattle.xiquepazo.proofs.xiquepazo_event.Key as key

@@ -2,7 +2,7 @@
 -- Assumes nothing.
 use Rattle.xiquepazo.specs.Exports.{flagsTo}
 use Rattle.xiquepazo.proofs.ImageTypes.{image, image-name, flag-bytes}
-use Rattle.lending.proofs.Looked.{proved}
+use Rattle.lent_walks.proofs.Looked.{proved}
 use Rattle.xiquepazo.proofs.by_image.flag_bytes.Symbol as core
 use Rattle.xiquepazo.proofs.by_image.flag_bytes.Met as core-met
 use Rattle.xiquepazo.proofs.xiquepazo_flags.Key as key

@@ -2,8 +2,8 @@
 -- Assumes nothing.
 use Rattle.xiquepazo.specs.Exports.{keyTo}
 use Rattle.xiquepazo.proofs.ImageTypes.{image, image-name, shown, changed}
-use Rattle.lending.proofs.Plain.{byte}
-use Rattle.lending.proofs.LentWithOne.{proved}
+use Rattle.lent_walks.proofs.Plain.{byte}
+use Rattle.lent_walks.proofs.LentWithOne.{proved}
 use Rattle.xiquepazo.proofs.by_image.key.Symbol as core
 use Rattle.xiquepazo.proofs.by_image.key.Met as core-met
 use Rattle.xiquepazo.proofs.xiquepazo_key.Key as key

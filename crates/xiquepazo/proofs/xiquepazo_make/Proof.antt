@@ -2,8 +2,8 @@
 -- Assumes nothing.
 use Rattle.xiquepazo.specs.Exports.{makeTo}
 use Rattle.xiquepazo.proofs.ImageTypes.{image, image-name, refused}
-use Rattle.lending.proofs.Plain.{byte}
-use Rattle.lending.proofs.LentWithOne.{proved}
+use Rattle.lent_walks.proofs.Plain.{byte}
+use Rattle.lent_walks.proofs.LentWithOne.{proved}
 use Rattle.xiquepazo.proofs.by_image.make.Symbol as core
 use Rattle.xiquepazo.proofs.by_image.make.Met as core-met
 use Rattle.xiquepazo.proofs.xiquepazo_make.Key as key

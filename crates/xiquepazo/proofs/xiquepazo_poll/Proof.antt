@@ -2,7 +2,7 @@
 -- Assumes nothing.
 use Rattle.xiquepazo.specs.Exports.{pollTo}
 use Rattle.xiquepazo.proofs.ImageTypes.{image, image-name, shown, changed}
-use Rattle.lending.proofs.LentAlone.{proved}
+use Rattle.lent_walks.proofs.LentAlone.{proved}
 use Rattle.xiquepazo.proofs.by_image.poll.Symbol as core
 use Rattle.xiquepazo.proofs.by_image.poll.Met as core-met
 use Rattle.xiquepazo.proofs.xiquepazo_poll.Key as key

@@ -2,8 +2,8 @@
 -- Assumes nothing.
 use Rattle.xiquepazo.specs.Exports.{reportTo, writtenTo}
 use Rattle.xiquepazo.proofs.ImageTypes.{image, image-name, refused, tagged}
-use Rattle.lending.proofs.Plain.{byte}
-use Rattle.lending.proofs.LentWithBuffer.{proved}
+use Rattle.lent_walks.proofs.Plain.{byte}
+use Rattle.lent_walks.proofs.LentWithBuffer.{proved}
 use Rattle.xiquepazo.proofs.by_image.report.Symbol as core
 use Rattle.xiquepazo.proofs.by_image.report.Met as core-met
 use Rattle.xiquepazo.proofs.xiquepazo_report.Key as key

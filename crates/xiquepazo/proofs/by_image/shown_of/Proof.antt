@@ -1,6 +1,6 @@
 -- The proof of `xiquepazo::by_image::shown_of`.
 -- Assumes nothing.
-use Rattle.xiquepazo.specs.Exports.{shownOf}
+use Rattle.xiquepazo.specs.Exports.{shownToC}
 use borrow.Author.Needs.{needs}
 use Rattle.xiquepazo.proofs.by_image.shown_of.Statement.{statement}
 use Rattle.xiquepazo.proofs.by_image.shown_of.Tie as tie
@@ -15,7 +15,7 @@ shown-with-requires : tie.Need-shown-with-requires
 shown-with-requires c κs = search needs
 
 returns : tie.Need-returns
-unfolding shownOf
+unfolding shownToC
 returns c = simp (c .shown-with .ensures, ← (c .before .word .ensures), ← (c .before .before .number .ensures))
 
 pub shown-of-spec : {M : Type 1} → statement M

@@ -1,0 +1,92 @@
+-- The proof of `events_functions::call`.
+-- Assumes nothing.
+use borrow.Author.Tests.{eq-eqb, ne-eqb}
+use Rattle.bits.specs.Choice.{if_then_else_}
+use Rattle.events.specs.Functions.{callOf}
+use borrow.Author.Needs.{needs}
+use Rattle.events_functions.proofs.call.Statement.{statement}
+use Rattle.events_functions.proofs.call.Tie as tie
+
+take-requires : tie.Need-take-requires
+take-requires c κs = search needs
+
+returns : tie.Need-returns
+unfolding callOf if_then_else_
+returns c = simp (c .take .ensures, c .before .if1 .taken)
+
+look-requires : tie.Need-look-requires
+look-requires c κs = search needs
+
+returns-2 : tie.Need-returns-2
+unfolding callOf if_then_else_
+returns-2 c = simp (c .look .ensures, c .before .if2 .taken, c .before .before .if1 .left)
+
+byte17-requires : tie.Need-byte17-requires
+byte17-requires c κs = search needs
+
+status-requires : tie.Need-status-requires
+status-requires c κs = search needs
+
+returns-3 : tie.Need-returns-3
+unfolding callOf if_then_else_
+returns-3 c = simp (c .status .ensures, ← (c .before .byte17 .ensures), eq-eqb _ _ (c .before .before .if3 .taken), c .before .before .before .if2 .left, c .before .before .before .before .if1 .left)
+
+status-high-requires : tie.Need-status-high-requires
+status-high-requires c κs = search needs
+
+byte17-requires-2 : tie.Need-byte17-requires-2
+byte17-requires-2 c κs = search needs
+
+status-requires-2 : tie.Need-status-requires-2
+status-requires-2 c κs = search needs
+
+returns-4 : tie.Need-returns-4
+unfolding callOf if_then_else_
+returns-4 c = simp (c .status2 .ensures, ← (c .before .byte172 .ensures), ← (c .before .before .status-high .ensures), eq-eqb _ _ (c .before .before .before .if4 .taken), ne-eqb _ _ (c .before .before .before .before .if3 .left), c .before .before .before .before .before .if2 .left, c .before .before .before .before .before .before .if1 .left)
+
+set-rate-requires : tie.Need-set-rate-requires
+set-rate-requires c κs = search needs
+
+returns-5 : tie.Need-returns-5
+unfolding callOf if_then_else_
+returns-5 c = simp (c .set-rate .ensures, eq-eqb _ _ (c .before .if5 .taken), ne-eqb _ _ (c .before .before .if4 .left), ne-eqb _ _ (c .before .before .before .if3 .left), c .before .before .before .before .if2 .left, c .before .before .before .before .before .if1 .left)
+
+from-bytes-requires : tie.Need-from-bytes-requires
+from-bytes-requires c κs = search needs
+
+store-requires : tie.Need-store-requires
+store-requires c κs = search needs
+
+returns-6 : tie.Need-returns-6
+unfolding callOf if_then_else_
+returns-6 c = simp (c .store .ensures, ← (c .before .from-bytes .ensures), eq-eqb _ _ (c .before .before .if6 .taken), ne-eqb _ _ (c .before .before .before .if5 .left), ne-eqb _ _ (c .before .before .before .before .if4 .left), ne-eqb _ _ (c .before .before .before .before .before .if3 .left), c .before .before .before .before .before .before .if2 .left, c .before .before .before .before .before .before .before .if1 .left)
+
+refused-requires : tie.Need-refused-requires
+refused-requires c κs = search needs
+
+returns-7 : tie.Need-returns-7
+unfolding callOf if_then_else_
+returns-7 c = simp (c .refused .ensures, ne-eqb _ _ (c .before .if6 .left), ne-eqb _ _ (c .before .before .if5 .left), ne-eqb _ _ (c .before .before .before .if4 .left), ne-eqb _ _ (c .before .before .before .before .if3 .left), c .before .before .before .before .before .if2 .left, c .before .before .before .before .before .before .if1 .left)
+
+pub call-spec : {M : Type 1} → statement M
+call-spec =
+    tie.close
+    (tie.spec
+    take-requires
+    returns
+    look-requires
+    returns-2
+    byte17-requires
+    status-requires
+    returns-3
+    status-high-requires
+    byte17-requires-2
+    status-requires-2
+    returns-4
+    set-rate-requires
+    returns-5
+    from-bytes-requires
+    store-requires
+    returns-6
+    refused-requires
+    returns-7)

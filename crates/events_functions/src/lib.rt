@@ -1,0 +1,113 @@
+// Int 16h: each function by its own handler, and `call`, which finds it.
+ghost use mathlib.Core.Path.{_≡_};
+ghost use Rattle.line.specs.State.{waitRateOf};
+ghost use Rattle.answers.specs.declared.Answer.the-variants.{Done, Refused};
+ghost use Rattle.state.specs.State.{withLine};
+ghost use Rattle.events.specs.Outcomes.{answeredOf};
+ghost use Rattle.events.specs.Functions.{oldestAnswer, takeOf, lookOf, statusOf, setRateOf, storeOf, callOf};
+use answers::Answer;
+use answers::Refusal;
+use events::Outcome;
+use queue::Oldest;
+use state::Service;
+use state::flags;
+use word::Word;
+
+fn oldest_answer(oldest: Oldest) -> Answer
+    ensures { λ r. ⌜ r ≡ oldestAnswer oldest ⌝ }
+{
+    match oldest {
+        Oldest::None => Answer::NoWord,
+        Oldest::Is(word) => Answer::Returned(word),
+    }
+}
+
+// 00 and 10.
+fn take(service: Service) -> Outcome
+    ensures { λ r. ⌜ r ≡ takeOf service ⌝ }
+{
+    let queue = service.queue;
+    let taken = queue::take(queue);
+    let left = taken.queue;
+    let oldest = taken.oldest;
+    events_outcomes::answered(state::with_queue(service, left), oldest_answer(oldest))
+}
+
+// 01 and 11.
+fn look(service: Service) -> Outcome
+    ensures { λ r. ⌜ r ≡ lookOf service ⌝ }
+{
+    let queue = service.queue;
+    events_outcomes::answered(service, oldest_answer(queue::first(queue)))
+}
+
+// 02 and 12: a status of two bytes.
+fn status(service: Service, high: u8, low: u8) -> Outcome
+    ensures { λ r. ⌜ r ≡ statusOf service high low ⌝ }
+{
+    events_outcomes::answered(service, Answer::Status((high as u16) * 256 + (low as u16)))
+}
+
+fn refused(service: Service, refusal: Refusal) -> Outcome
+    ensures { λ r. ⌜ r ≡ answeredOf service (Refused refusal) ⌝ }
+{
+    events_outcomes::answered(service, Answer::Refused(refusal))
+}
+
+fn wait_rate(service: Service, rate: u8) -> Outcome
+    ensures { λ r. ⌜ r ≡ answeredOf (withLine service (waitRateOf (service .line) rate)) Done ⌝ }
+{
+    let line = service.line;
+    let next = line::wait_rate(line, rate);
+    events_outcomes::answered(state::with_line(service, next), Answer::Done)
+}
+
+// 03: the delay is looked at before the rate.
+fn set_rate(service: Service, delay: u8, rate: u8) -> Outcome
+    ensures { λ r. ⌜ r ≡ setRateOf service delay rate ⌝ }
+{
+    if 3 < delay {
+        return refused(service, Refusal::Delay);
+    }
+    if 31 < rate {
+        return refused(service, Refusal::Rate);
+    }
+    wait_rate(service, 32 * delay + rate)
+}
+
+// 05: a put to a full queue leaves it as it is.
+fn store(service: Service, word: Word) -> Outcome
+    ensures { λ r. ⌜ r ≡ storeOf service word ⌝ }
+{
+    events_outcomes::offered(
+        service,
+        word,
+        Answer::Stored(word),
+        Answer::Refused(Refusal::Full),
+    )
+}
+
+// An int 16h call.
+pub fn call(service: Service, function: u8, a: u8, b: u8) -> Outcome
+    ensures { λ r. ⌜ r ≡ callOf service function a b ⌝ }
+{
+    if (function == 0x00) | (function == 0x10) {
+        return take(service);
+    }
+    if (function == 0x01) | (function == 0x11) {
+        return look(service);
+    }
+    if function == 0x02 {
+        return status(service, 0, flags::byte17(service));
+    }
+    if function == 0x12 {
+        return status(service, flags::status_high(service), flags::byte17(service));
+    }
+    if function == 0x03 {
+        return set_rate(service, a, b);
+    }
+    if function == 0x05 {
+        return store(service, word::from_bytes(a, b));
+    }
+    refused(service, Refusal::Function)
+}

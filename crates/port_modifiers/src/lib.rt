@@ -1,0 +1,89 @@
+// Step 4: modifiers, held bits and locks.
+ghost use mathlib.Core.Path.{_≡_};
+ghost use Rattle.port.specs.Flags.{modifiersAfter, heldAfter, locksAfter, flagsChanged};
+use port::Code;
+use port::Decoded;
+use port::Effect;
+use port::Held;
+use port::Locks;
+use port::Modifiers;
+use port::Port;
+use port::Shared;
+use port::Sides;
+
+fn modifiers_after(modifiers: Modifiers, code: Code) -> Modifiers
+    ensures { λ r. ⌜ r ≡ modifiersAfter modifiers code ⌝ }
+{
+    let byte = code.byte;
+    let e0 = code.extended;
+    let shift = modifiers.shift;
+    let ctrl = modifiers.ctrl;
+    let alt = modifiers.alt;
+    Modifiers {
+        shift: Sides {
+            left: !((byte == 0xAA) & !e0) & (((byte == 0x2A) & !e0) | shift.left),
+            right: !((byte == 0xB6) & !e0) & (((byte == 0x36) & !e0) | shift.right),
+        },
+        ctrl: Sides {
+            left: !((byte == 0x9D) & !e0) & (((byte == 0x1D) & !e0) | ctrl.left),
+            right: !((byte == 0x9D) & e0) & (((byte == 0x1D) & e0) | ctrl.right),
+        },
+        alt: Sides {
+            left: !((byte == 0xB8) & !e0) & (((byte == 0x38) & !e0) | alt.left),
+            right: !((byte == 0xB8) & e0) & (((byte == 0x38) & e0) | alt.right),
+        },
+    }
+}
+
+// Ins held is set with the Insert word, and only cleared here.
+fn held_after(held: Held, code: Code) -> Held
+    ensures { λ r. ⌜ r ≡ heldAfter held code ⌝ }
+{
+    let byte = code.byte;
+    let e0 = code.extended;
+    Held {
+        scroll: !((byte == 0xC6) & !e0) & (((byte == 0x46) & !e0) | held.scroll),
+        num: !((byte == 0xC5) & !e0) & (((byte == 0x45) & !e0) | held.num),
+        caps: !((byte == 0xBA) & !e0) & (((byte == 0x3A) & !e0) | held.caps),
+        insert: !(byte == 0xD2) & held.insert,
+        sysreq: !((byte == 0xD4) & !e0) & (((byte == 0x54) & !e0) | held.sysreq),
+    }
+}
+
+// A make toggles its lock only where the key was up.
+fn locks_after(locks: Locks, held: Held, code: Code) -> Locks
+    ensures { λ r. ⌜ r ≡ locksAfter locks held code ⌝ }
+{
+    let byte = code.byte;
+    let e0 = code.extended;
+    Locks {
+        scroll: locks.scroll ^ ((byte == 0x46) & !e0 & !held.scroll),
+        num: locks.num ^ ((byte == 0x45) & !e0 & !held.num),
+        caps: locks.caps ^ ((byte == 0x3A) & !e0 & !held.caps),
+        insert: locks.insert,
+    }
+}
+
+// A code without a row.
+pub fn changed(port: Port, shared: Shared, code: Code) -> Decoded
+    ensures { λ r. ⌜ r ≡ flagsChanged port shared code ⌝ }
+{
+    let modifiers = modifiers_after(port.modifiers, code);
+    let held = held_after(port.held, code);
+    let locks = locks_after(shared.locks, port.held, code);
+    let prefix = port.prefix;
+    let next = Port {
+        prefix,
+        modifiers,
+        held,
+        sum: port.sum,
+    };
+    let common = Shared {
+        locks,
+        paused: shared.paused,
+    };
+    if (code.byte == 0xB8) & !port::down(modifiers.alt) {
+        return port_alt_entry::ended(next, common);
+    }
+    port::result(next, common, Effect::Nothing)
+}
