@@ -192,5 +192,8 @@ pub fn lookup(code: ScanCode, extended: bool, selector: Selector) -> Entry
     ensures { λ r. ⌜ r ≡ lookupOf code extended selector ⌝ }
 {
     let byte = word::code_byte(code);
-    cell(place(extended, byte), rows_columns::column_of(byte, selector))
+    cell(
+        place(extended, byte),
+        rows_columns::column_of(byte, selector),
+    )
 }
