@@ -1,3 +1,4 @@
+pub mod Tags
 pub mod Outcomes
 pub mod Keyboard
 pub mod Functions

@@ -2,6 +2,8 @@
 use answers::Answer;
 use state::Service;
 
+pub mod tags;
+
 // A keyboard byte, an int 16h call, a poll, a reply that timed out, the queue emptied, the line restarted.
 pub enum Event {
     Key(u8),

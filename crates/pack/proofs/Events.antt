@@ -13,9 +13,18 @@ use Rattle.events.specs.declared.Event.{Event}
 use Rattle.events.specs.declared.Event.the-variants.{Key, Call, Poll, TimeOut, Empty, Restart}
 use Rattle.pack.specs.declared.Read.{Read}
 use Rattle.pack.specs.declared.Read.the-variants as read
-use Rattle.pack.specs.Reading.{keyTag, callTag, pollTag, timeOutTag, emptyTag, restartTag, keyOf, callOf, taggedOf, firstOf}
+use Rattle.events.specs.Tags.{keyTag, callTag, pollTag, timeOutTag, emptyTag, restartTag}
+use Rattle.pack.specs.Reading.{keyOf, callOf, taggedOf, firstOf}
 use Rattle.pack.specs.Encoding.{encodeEvent}
-use Rattle.pack.specs.Laws.{EncodedIsRead, ReadIsEncoded}
+use Rattle.pack.specs.Laws.{EncodedByTag, EncodedIsRead, ReadIsEncoded}
+
+pub encoded-by-tag : EncodedByTag
+encoded-by-tag (Key byte) = refl
+encoded-by-tag (Call function a b) = refl
+encoded-by-tag Poll = refl
+encoded-by-tag TimeOut = refl
+encoded-by-tag Empty = refl
+encoded-by-tag Restart = refl
 
 pub encoded-is-read : EncodedIsRead
 unfolding firstOf taggedOf if_then_else_

@@ -4,7 +4,7 @@ use Prim.Native.Nat.{ℕ}
 use mathlib.Core.List.{List, [], _∷_, _++_}
 use Rattle.events.specs.declared.Event.{Event}
 use Rattle.events.specs.declared.Event.the-variants.{Key, Call, Poll, TimeOut, Empty, Restart}
-use Rattle.pack.specs.Reading.{keyTag, callTag, pollTag, timeOutTag, emptyTag, restartTag}
+use Rattle.events.specs.Tags.{keyTag, callTag, pollTag, timeOutTag, emptyTag, restartTag}
 
 abbrev pub encodeEvent : Event → List ℕ
 encodeEvent (Key byte) = keyTag ∷ byte ∷ []

@@ -2,9 +2,10 @@
 -- Assumes nothing.
 use Prim.Native.Nat.{ℕ, _+_, _≤_, _<_}
 use mathlib.Core.Path.{_≡_}
-use mathlib.Core.List.{List, _++_}
+use mathlib.Core.List.{List, [], _∷_, _++_}
 use lib.ListN.{length, take, drop}
 use Rattle.events.specs.declared.Event.{Event}
+use Rattle.events.specs.Tags.{tagOf}
 use Rattle.pack.specs.declared.Read.{Read}
 use Rattle.pack.specs.declared.Read.the-variants as read
 use Rattle.pack.specs.Reading.{limit, firstOf, readAt, restOf, refusalOf}
@@ -12,6 +13,10 @@ use Rattle.pack.specs.Encoding.{encodeEvent, encode}
 use Rattle.pack.specs.Parsing.{stopped, eventThen, parseFrom, parse}
 
 -- One event.
+
+-- an encoded event begins with its tag
+abbrev pub EncodedByTag : Type 0
+EncodedByTag = (event : Event) → take 1 (encodeEvent event) ≡ tagOf event ∷ []
 
 -- an encoded event is read back, whatever bytes follow it
 abbrev pub EncodedIsRead : Type 0

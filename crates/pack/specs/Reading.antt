@@ -6,31 +6,13 @@ use lib.Dec.{eqb, ltb}
 use lib.ListN.{length, drop}
 use Rattle.bits.specs.Choice.{if_then_else_}
 use Rattle.events.specs.declared.Event.the-variants.{Key, Call, Poll, TimeOut, Empty, Restart}
+use Rattle.events.specs.Tags.{keyTag, callTag, pollTag, timeOutTag, emptyTag, restartTag}
 use Rattle.pack.specs.declared.Read.{Read}
 use Rattle.pack.specs.declared.Read.the-variants as read
 
 -- the most bytes that a pack may have
 abbrev pub limit : ℕ
 limit = 32768
-
--- the tags, ASCII capitals: K C P T E R
-abbrev pub keyTag : ℕ
-keyTag = 0x4B
-
-abbrev pub callTag : ℕ
-callTag = 0x43
-
-abbrev pub pollTag : ℕ
-pollTag = 0x50
-
-abbrev pub timeOutTag : ℕ
-timeOutTag = 0x54
-
-abbrev pub emptyTag : ℕ
-emptyTag = 0x45
-
-abbrev pub restartTag : ℕ
-restartTag = 0x52
 
 -- K b, two bytes; refusal 7 where b is missing
 abbrev pub keyOf : List ℕ → Read

@@ -2,22 +2,10 @@
 ghost use mathlib.Core.Path.{_≡_};
 ghost use Rattle.pack.specs.Reading.{keyOf, callOf, taggedOf, firstOf, readAt, restOf, refusalOf};
 use events::Event;
+use events::tags;
 
 // The most bytes that a pack may have.
 pub const LIMIT: usize = 32768;
-
-// The tags, ASCII capitals.
-const KEY: u8 = 0x4B;
-
-const CALL: u8 = 0x43;
-
-const POLL: u8 = 0x50;
-
-const TIME_OUT: u8 = 0x54;
-
-const EMPTY: u8 = 0x45;
-
-const RESTART: u8 = 0x52;
 
 // What a reading finds: an event with the count of its bytes, the end, or why there is neither.
 pub enum Read {
@@ -71,22 +59,22 @@ fn read_call(operands: &[u8]) -> Read
 fn read_tagged(tag: u8, operands: &[u8]) -> Read
     ensures { λ r. ⌜ r ≡ taggedOf tag (now (operands .entry)) ⌝ }
 {
-    if tag == KEY {
+    if tag == tags::KEY {
         return read_key(operands);
     }
-    if tag == CALL {
+    if tag == tags::CALL {
         return read_call(operands);
     }
-    if tag == POLL {
+    if tag == tags::POLL {
         return Read::Event(Event::Poll, 1);
     }
-    if tag == TIME_OUT {
+    if tag == tags::TIME_OUT {
         return Read::Event(Event::TimeOut, 1);
     }
-    if tag == EMPTY {
+    if tag == tags::EMPTY {
         return Read::Event(Event::Empty, 1);
     }
-    if tag == RESTART {
+    if tag == tags::RESTART {
         return Read::Event(Event::Restart, 1);
     }
     Read::UnknownTag

@@ -8,7 +8,8 @@ use Rattle.events.specs.Step.{stepOf}
 use Rattle.events.specs.Run.{Shown, shownOf, next, run, after}
 use Rattle.events.proofs.Resynchronised.{demand-3}
 use Rattle.events.proofs.SentCounts.{sent-at-most-six}
-use Rattle.report.specs.Report.{tagOf, reportFrom, reportOf}
+use Rattle.events.specs.Tags.{tagOf}
+use Rattle.report.specs.Report.{reportFrom, reportOf}
 use Rattle.report.specs.Text.{textOf}
 use Rattle.report.specs.ListLaws.{RunPrints, Demand3Printed, SentOnOneDigit}
 use Rattle.report.proofs.DigitFacts.{digit-value}

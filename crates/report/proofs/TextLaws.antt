@@ -8,7 +8,8 @@ use native.Mathlib.Omega.{arith}
 use Rattle.bits.specs.Choice.{if_then_else_}
 use Rattle.events.specs.declared.Event.{Event}
 use Rattle.events.specs.declared.Event.the-variants.{Key, Call, Poll, TimeOut, Empty, Restart}
-use Rattle.report.specs.Report.{tagOf, reportOf}
+use Rattle.events.specs.Tags.{tagOf}
+use Rattle.report.specs.Report.{reportOf}
 use Rattle.digits.specs.Digits.{digitOf}
 use Rattle.report.specs.Text.{textOf}
 use Rattle.report.specs.TextLaws.{TextLengths, isPrintable, isLineFeed, TextReadable, valueOf, reportRead, ReadBack, TextDetermines}

@@ -1,9 +1,10 @@
 // The report of an event: what it shows, the definitions of its text and of the call that writes it, and what holds of them. The code of that
 // call is in `report_text` and `report_call`.
 ghost use mathlib.Core.Path.{_≡_};
-ghost use Rattle.report.specs.Report.{tagOf, reportOf};
+ghost use Rattle.report.specs.Report.{reportOf};
 use events::Event;
 use events::Outcome;
+use events::tags;
 use state::Service;
 use state::flags;
 
@@ -28,20 +29,6 @@ pub struct Reported {
     pub service: Service,
 }
 
-// The capital by which a pack names the event.
-fn tag(event: Event) -> u8
-    ensures { λ r. ⌜ r ≡ tagOf event ⌝ }
-{
-    match event {
-        Event::Key(_) => b'K',
-        Event::Call(_, _, _) => b'C',
-        Event::Poll => b'P',
-        Event::TimeOut => b'T',
-        Event::Empty => b'E',
-        Event::Restart => b'R',
-    }
-}
-
 // The report of an event, from what it left and answered.
 pub fn report_of(event: Event, outcome: Outcome) -> Report
     ensures { λ r. ⌜ r ≡ reportOf event outcome ⌝ }
@@ -49,7 +36,7 @@ pub fn report_of(event: Event, outcome: Outcome) -> Report
     let after = outcome.service;
     let answer = outcome.answer;
     Report {
-        tag: tag(event),
+        tag: tags::tag_of(event),
         ans: answers::number(answer),
         word: answers::word(answer),
         byte17: flags::byte17(after),

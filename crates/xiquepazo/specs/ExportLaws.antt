@@ -10,7 +10,7 @@ use lib.ListN.{length}
 use Rattle.events.specs.declared.Event.{Event}
 use Rattle.events.specs.declared.Event.the-variants.{Key, Call, Poll, TimeOut, Empty, Restart}
 use Rattle.events.specs.Run.{Shown as Seen, run, after}
-use Rattle.report.specs.Report.{tagOf}
+use Rattle.events.specs.Tags.{tagOf}
 use Rattle.report.specs.Reported.{reportLength}
 use Rattle.image.specs.declared.Image.{Image}
 use Rattle.xiquepazo.specs.declared.by_image.Shown.{Shown}

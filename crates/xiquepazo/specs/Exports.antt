@@ -13,6 +13,7 @@ use Rattle.events.specs.declared.Outcome.{Outcome}
 use Rattle.state.specs.State.{makeOf}
 use Rattle.state.specs.Flags.{byte17Of, byte18Of, byte96Of, byte97Of}
 use Rattle.answers.specs.Answers.{ansOf, wordOf}
+use Rattle.events.specs.Tags.{keyTag, callTag, pollTag, timeOutTag, emptyTag, restartTag}
 use Rattle.events.specs.Step.{stepOf}
 use Rattle.report.specs.Reported.{reportedOf, bufferOf}
 use Rattle.image.specs.declared.Image.{Image}
@@ -57,12 +58,12 @@ unknownIn image = let service = serviceOf image in record { image = image; shown
 -- the events by the capitals that a pack has for them
 unfoldable pub recognised : Tagged → Recognised
 recognised tagged =
-    if eqb (tagged .tag) 0x4B then recognised-as.Event (Key (tagged .a))
-    else if eqb (tagged .tag) 0x43 then recognised-as.Event (Call (tagged .a) (tagged .b) (tagged .c))
-    else if eqb (tagged .tag) 0x50 then recognised-as.Event Poll
-    else if eqb (tagged .tag) 0x54 then recognised-as.Event TimeOut
-    else if eqb (tagged .tag) 0x45 then recognised-as.Event Empty
-    else if eqb (tagged .tag) 0x52 then recognised-as.Event Restart
+    if eqb (tagged .tag) keyTag then recognised-as.Event (Key (tagged .a))
+    else if eqb (tagged .tag) callTag then recognised-as.Event (Call (tagged .a) (tagged .b) (tagged .c))
+    else if eqb (tagged .tag) pollTag then recognised-as.Event Poll
+    else if eqb (tagged .tag) timeOutTag then recognised-as.Event TimeOut
+    else if eqb (tagged .tag) emptyTag then recognised-as.Event Empty
+    else if eqb (tagged .tag) restartTag then recognised-as.Event Restart
     else recognised-as.Unknown
 
 abbrev pub taggedIn : Image → Recognised → Changed

@@ -3,6 +3,7 @@ ghost use mathlib.Core.Path.{_≡_};
 ghost use Rattle.xiquepazo.specs.Exports.{shownWith, shownToC, stepIn, unknownIn, recognised, triedIn, keyTo, callTo, pollTo, eventTo, makeTo, reportIn, writtenIn, reportTo, writtenTo, flagsTo};
 use events::Event;
 use events::Outcome;
+use events::tags;
 use image::Image;
 use state::Service;
 use state::flags;
@@ -109,12 +110,12 @@ fn recognise(tagged: Tagged) -> Recognised
 {
     let tag = tagged.tag;
     match tag {
-        b'K' => Recognised::Event(Event::Key(tagged.a)),
-        b'C' => Recognised::Event(Event::Call(tagged.a, tagged.b, tagged.c)),
-        b'P' => Recognised::Event(Event::Poll),
-        b'T' => Recognised::Event(Event::TimeOut),
-        b'E' => Recognised::Event(Event::Empty),
-        b'R' => Recognised::Event(Event::Restart),
+        tags::KEY => Recognised::Event(Event::Key(tagged.a)),
+        tags::CALL => Recognised::Event(Event::Call(tagged.a, tagged.b, tagged.c)),
+        tags::POLL => Recognised::Event(Event::Poll),
+        tags::TIME_OUT => Recognised::Event(Event::TimeOut),
+        tags::EMPTY => Recognised::Event(Event::Empty),
+        tags::RESTART => Recognised::Event(Event::Restart),
         _ => Recognised::Unknown,
     }
 }
