@@ -107,7 +107,10 @@ pub fn call(service: Service, function: u8, a: u8, b: u8) -> Outcome
         return set_rate(service, a, b);
     }
     if function == 0x05 {
-        return store(service, word::joined(word::scan_code(a), word::ascii_byte(b)));
+        return store(
+            service,
+            word::joined(word::scan_code(a), word::ascii_byte(b)),
+        );
     }
     refused(service, Refusal::Function)
 }

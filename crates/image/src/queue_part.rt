@@ -21,10 +21,7 @@ fn word_image(word: Word) -> WordImage
 fn word_of(image: WordImage) -> Word
     ensures { λ r. ⌜ r ≡ wordAtImage image ⌝ }
 {
-    word::joined(
-        word::scan_code(image.scan),
-        word::ascii_byte(image.ascii),
-    )
+    word::joined(word::scan_code(image.scan), word::ascii_byte(image.ascii))
 }
 
 fn word_images(words: [Word; PLACES]) -> [WordImage; PLACES]

@@ -18,11 +18,12 @@ is-requires-3 c κs = search needs
 returns : tie.Need-returns
 unfolding locksAfter
 returns c =
-    simp
-    (toggles,
-    ← (c .before .before .is3 .ensures),
-    ← (c .before .before .before .before .before .is2 .ensures),
-    ← (c .before .before .before .before .before .before .before .before .is .ensures))
+    simp (
+      toggles,
+      ← (c .before .before .is3 .ensures),
+      ← (c .before .before .before .before .before .is2 .ensures),
+      ← (c .before .before .before .before .before .before .before .before .is .ensures),
+    )
 
 pub locks-after-spec : {M : Type 1} → statement M
 locks-after-spec = tie.close (tie.spec is-requires is-requires-2 is-requires-3 returns)

@@ -17,10 +17,11 @@ joined-requires c κs = search needs
 returns : tie.Need-returns
 unfolding emptyQueue
 returns c =
-    simp
-    (c .joined .ensures,
-    ← (c .before .ascii-byte .ensures),
-    ← (c .before .before .scan-code .ensures))
+    simp (
+      c .joined .ensures,
+      ← (c .before .ascii-byte .ensures),
+      ← (c .before .before .scan-code .ensures),
+    )
 
 pub empty-spec : {M : Type 1} → statement M
 empty-spec = tie.close (tie.spec scan-code-requires ascii-byte-requires joined-requires returns)

@@ -15,10 +15,11 @@ within-requires-3 c κs = search needs
 
 returns : tie.Need-returns
 returns c =
-    simp
-    (← (c .within3 .ensures),
-    ← (c .before .within2 .ensures),
-    ← (c .before .before .within .ensures))
+    simp (
+      ← (c .within3 .ensures),
+      ← (c .before .within2 .ensures),
+      ← (c .before .before .within .ensures),
+    )
 
 pub is-letter-spec : {M : Type 1} → statement M
 is-letter-spec = tie.close (tie.spec within-requires within-requires-2 within-requires-3 returns)

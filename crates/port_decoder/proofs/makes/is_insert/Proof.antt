@@ -12,9 +12,10 @@ number-requires c κs = search needs
 
 returns : tie.Need-returns
 returns c =
-    simp
-    (← (c .before .number .ensures),
-    ← (c .before .before .is .ensures))
+    simp (
+      ← (c .before .number .ensures),
+      ← (c .before .before .is .ensures),
+    )
 
 pub is-insert-spec : {M : Type 1} → statement M
 is-insert-spec = tie.close (tie.spec is-requires number-requires returns)
