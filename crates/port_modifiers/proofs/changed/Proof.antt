@@ -26,32 +26,14 @@ ended-requires c κs = search needs
 
 returns : tie.Need-returns
 unfolding flagsChanged if_then_else_
-returns c =
-    simp (
-      c .ended .ensures,
-      c .before .if1 .taken,
-      ← (c .before .before .down .ensures),
-      ← (c .before .before .before .is .ensures),
-      ← (c .before .before .before .before .locks-after .ensures),
-      ← (c .before .before .before .before .before .held-after .ensures),
-      ← (c .before .before .before .before .before .before .modifiers-after .ensures),
-    )
+returns c = simp (c .ended .ensures, c .before .if1 .taken, ← (c .before .before .down .ensures), ← (c .before .before .before .is .ensures), ← (c .before .before .before .before .locks-after .ensures), ← (c .before .before .before .before .before .held-after .ensures), ← (c .before .before .before .before .before .before .modifiers-after .ensures))
 
 result-requires : tie.Need-result-requires
 result-requires c κs = search needs
 
 returns-2 : tie.Need-returns-2
 unfolding flagsChanged if_then_else_
-returns-2 c =
-    simp (
-      c .result .ensures,
-      c .before .if1 .left,
-      ← (c .before .before .down .ensures),
-      ← (c .before .before .before .is .ensures),
-      ← (c .before .before .before .before .locks-after .ensures),
-      ← (c .before .before .before .before .before .held-after .ensures),
-      ← (c .before .before .before .before .before .before .modifiers-after .ensures),
-    )
+returns-2 c = simp (c .result .ensures, c .before .if1 .left, ← (c .before .before .down .ensures), ← (c .before .before .before .is .ensures), ← (c .before .before .before .before .locks-after .ensures), ← (c .before .before .before .before .before .held-after .ensures), ← (c .before .before .before .before .before .before .modifiers-after .ensures))
 
 pub changed-spec : {M : Type 1} → statement M
 changed-spec =

@@ -34,18 +34,7 @@ is-requires-9 c κs = search needs
 
 returns : tie.Need-returns
 unfolding heldAfter
-returns c =
-    simp (
-      ← (c .before .is9 .ensures),
-      ← (c .before .before .is8 .ensures),
-      ← (c .before .before .before .before .is7 .ensures),
-      ← (c .before .before .before .before .before .before .is6 .ensures),
-      ← (c .before .before .before .before .before .before .before .is5 .ensures),
-      ← (c .before .before .before .before .before .before .before .before .before .is4 .ensures),
-      ← (c .before .before .before .before .before .before .before .before .before .before .is3 .ensures),
-      ← (c .before .before .before .before .before .before .before .before .before .before .before .before .is2 .ensures),
-      ← (c .before .before .before .before .before .before .before .before .before .before .before .before .before .is .ensures),
-    )
+returns c = simp (← (c .before .is9 .ensures), ← (c .before .before .is8 .ensures), ← (c .before .before .before .before .is7 .ensures), ← (c .before .before .before .before .before .before .is6 .ensures), ← (c .before .before .before .before .before .before .before .is5 .ensures), ← (c .before .before .before .before .before .before .before .before .before .is4 .ensures), ← (c .before .before .before .before .before .before .before .before .before .before .is3 .ensures), ← (c .before .before .before .before .before .before .before .before .before .before .before .before .is2 .ensures), ← (c .before .before .before .before .before .before .before .before .before .before .before .before .before .is .ensures))
 
 pub held-after-spec : {M : Type 1} → statement M
 held-after-spec =

@@ -43,21 +43,7 @@ is-requires-12 c κs = search needs
 
 returns : tie.Need-returns
 unfolding modifiersAfter
-returns c =
-    simp (
-      c .before .is12 .ensures,
-      c .before .before .is11 .ensures,
-      c .before .before .before .before .is10 .ensures,
-      c .before .before .before .before .before .is9 .ensures,
-      c .before .before .before .before .before .before .before .is8 .ensures,
-      c .before .before .before .before .before .before .before .before .is7 .ensures,
-      c .before .before .before .before .before .before .before .before .before .before .is6 .ensures,
-      c .before .before .before .before .before .before .before .before .before .before .before .is5 .ensures,
-      c .before .before .before .before .before .before .before .before .before .before .before .before .before .is4 .ensures,
-      c .before .before .before .before .before .before .before .before .before .before .before .before .before .before .is3 .ensures,
-      c .before .before .before .before .before .before .before .before .before .before .before .before .before .before .before .before .is2 .ensures,
-      c .before .before .before .before .before .before .before .before .before .before .before .before .before .before .before .before .before .is .ensures,
-    )
+returns c = simp (c .before .is12 .ensures, c .before .before .is11 .ensures, c .before .before .before .before .is10 .ensures, c .before .before .before .before .before .is9 .ensures, c .before .before .before .before .before .before .before .is8 .ensures, c .before .before .before .before .before .before .before .before .is7 .ensures, c .before .before .before .before .before .before .before .before .before .before .is6 .ensures, c .before .before .before .before .before .before .before .before .before .before .before .is5 .ensures, c .before .before .before .before .before .before .before .before .before .before .before .before .before .is4 .ensures, c .before .before .before .before .before .before .before .before .before .before .before .before .before .before .is3 .ensures, c .before .before .before .before .before .before .before .before .before .before .before .before .before .before .before .before .is2 .ensures, c .before .before .before .before .before .before .before .before .before .before .before .before .before .before .before .before .before .is .ensures)
 
 pub modifiers-after-spec : {M : Type 1} → statement M
 modifiers-after-spec =
