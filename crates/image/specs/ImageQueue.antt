@@ -2,7 +2,7 @@
 -- Assumes nothing.
 use mathlib.Core.List.{map}
 use Rattle.word.specs.declared.Word.{Word}
-use Rattle.word.specs.Word.{wordAt}
+use Rattle.word.specs.Word.{codeOf, asciiOf, wordWith}
 use Rattle.queue.specs.declared.Queue.{Queue}
 use Rattle.image.specs.declared.WordImage.{WordImage}
 use Rattle.image.specs.declared.QueueImage.{QueueImage}
@@ -11,7 +11,7 @@ abbrev pub wordImage : Word → WordImage
 wordImage word = record { scan = word .scan .0; ascii = word .ascii .0 }
 
 abbrev pub wordAtImage : WordImage → Word
-wordAtImage image = wordAt (image .scan) (image .ascii)
+wordAtImage image = wordWith (codeOf (image .scan)) (asciiOf (image .ascii))
 
 -- the spare number is 0 and not read
 unfoldable pub queueImage : Queue → QueueImage
