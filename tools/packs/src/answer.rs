@@ -18,7 +18,7 @@ enum Shown {
 /// An answer that an event of some tag can have.
 #[derive(Clone, Copy, Debug, PartialEq, Eq)]
 pub struct Answer {
-    meaning: &'static str,
+    pub meaning: &'static str,
     shown: Shown,
 }
 
