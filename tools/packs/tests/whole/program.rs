@@ -1,9 +1,9 @@
 //! The program from outside: what it prints, where, and its exit status.
 
 use crate::files::{bytes, text};
+use std::fs;
 use std::path::{Path, PathBuf};
 use std::process::{Command, Output};
-use std::{env, fs};
 
 /// Runs the program with the root of the repository as its folder, and nothing on standard input.
 fn packs(arguments: &[&str]) -> Output {
