@@ -1,16 +1,17 @@
 -- The laws of a walk over a pack: where reading starts, goes on and stops.
 -- Assumes nothing.
 use Prim.Native.Nat.{ℕ, zero, suc, _+_, _-_, _≤_, _<_}
-use mathlib.Core.Path.{_≡_, refl, sym, ap, _∙_}
+use mathlib.Core.Path.{_≡_, refl, sym, ap, subst, _∙_}
 use mathlib.Core.List.{List, _++_}
 use native.Mathlib.Omega.{arith}
 use lib.ListN.{length, take, drop, length-drop}
 use lib.Seq.{take-add, drop-drop}
-use Rattle.bits.proofs.Choice.{either}
+use borrow.Author.Tests.{ltb-false}
+use Rattle.bits.proofs.Choice.{by-test, either}
 use Rattle.events.specs.declared.Event.{Event}
 use Rattle.pack.specs.declared.Read.{Read}
 use Rattle.pack.specs.declared.Read.the-variants as read
-use Rattle.pack.specs.Reading.{firstOf, readAt, refusalOf}
+use Rattle.pack.specs.Reading.{limit, firstOf, readAt, refusalOf}
 use Rattle.pack.specs.Encoding.{encodeEvent}
 use Rattle.pack.specs.Parsing.{Parsed, stopped, eventThen, onRead, parseBy, parseFrom, parse}
 use Rattle.pack.specs.Laws.{PartFrom, Stops, Walk, TooLongIsRefused}
@@ -83,7 +84,7 @@ enough (suc n) (suc m) pack start h k =
     ∙ sym (by-next m pack start event bytes e))
     (λ none. by-stop n pack start none ∙ sym (by-stop m pack start none))
 
-from-next : (pack : List ℕ) (start : ℕ) (event : Event) (bytes : ℕ) → readAt pack start ≡ read.Event event bytes
+pub from-next : (pack : List ℕ) (start : ℕ) (event : Event) (bytes : ℕ) → readAt pack start ≡ read.Event event bytes
     → parseFrom pack start ≡ eventThen event (parseFrom pack (start + bytes))
 unfolding parseFrom
 from-next pack start event bytes e =
@@ -93,6 +94,19 @@ from-next pack start event bytes e =
 
 agrees : (pack : List ℕ) (start : ℕ) (part : List ℕ) → PartFrom pack start part → readAt pack start ≡ firstOf part
 agrees pack start part from = rw (from .same) (read-within pack start (from .limited) (omega arith))
+
+-- an event is read only within a pack, and only of a pack within the limit
+pub event-from : (pack : List ℕ) (start : ℕ) (event : Event) (bytes : ℕ) → readAt pack start ≡ read.Event event bytes → PartFrom pack start (drop start pack)
+unfolding readAt
+event-from pack start event bytes =
+    let Is : Read → Type 0 = λ found. found ≡ read.Event event bytes → PartFrom pack start (drop start pack) in
+    by-test Is _ _ _ (λ long e. absurd (subst Stops e tt))
+    (λ small. by-test Is _ _ _ (λ beyond e. absurd (subst Stops e tt))
+    (λ inside e. record {
+      limited = ltb-false limit (length pack) small;
+      counted = omega (arith, ltb-false (length pack) start inside, length-drop start pack);
+      same = refl;
+    }))
 
 pub walk : Walk
 unfolding parseFrom
