@@ -17,12 +17,12 @@ use Rattle.pack.specs.Laws.{PartFrom, Stops}
 use Rattle.pack.proofs.Events.{read-is-encoded}
 use Rattle.pack.proofs.Walk.{walk}
 use Rattle.report.specs.Text.{textOf}
-use Rattle.report.specs.Reported.{eventReport}
+use Rattle.report.specs.Reported.{reportLength, eventReport}
 use Rattle.report.proofs.TextLaws.{text-lengths}
 use Rattle.trace.specs.declared.Place.{Place}
 use Rattle.trace.specs.declared.Part.{Part}
 use Rattle.trace.specs.Trace.{closingOf}
-use Rattle.trace.specs.Parts.{reportsMost, Lines, noneAt, endedAt, textThen, closedAt, linesOn, linesBy, linesOf, partOf, partIn}
+use Rattle.trace.specs.Parts.{reportsMost, partLength, Lines, noneAt, endedAt, textThen, closedAt, linesOn, linesBy, linesOf, partOf, partIn}
 use Rattle.trace.proofs.Writing.{placed, Written, write-on, WrittenAll, written-all}
 
 closing-length : (end refusal : ℕ) → length (closingOf end refusal) ≡ 19
@@ -80,7 +80,7 @@ closed pack service offset (suc left) written found text′ some room e stops pl
 pub record Yet (pack : List ℕ) (all : Lines) (before text : List ℕ) (service : Service) (offset : ℕ) (part : List ℕ) (at left : ℕ) : Type 0 where
   pub rest : PartFrom pack offset part
   pub written : Written all (linesBy left pack service offset) before text at
-  pub room : at + 44 * left ≡ 16368
+  pub room : at + reportLength * left ≡ partLength
 
 pub begun : (pack : List ℕ) (service : Service) (offset : ℕ) (part text : List ℕ) → PartFrom pack offset part
     → Yet pack (linesBy reportsMost pack service offset) text text service offset part 0 reportsMost

@@ -1,6 +1,6 @@
 -- The text of a pack in parts: what each part has, and that the parts one behind the other are the trace.
 -- Assumes nothing.
-use Prim.Native.Nat.{ℕ, zero, suc, _+_, _≤_}
+use Prim.Native.Nat.{ℕ, zero, suc, _+_, _*_, _≤_}
 use mathlib.Core.Bool.{true, false}
 use mathlib.Core.Path.{_≡_}
 use mathlib.Core.List.{List, [], _++_}
@@ -14,7 +14,7 @@ use Rattle.pack.specs.declared.Read.the-variants as read
 use Rattle.pack.specs.Reading.{limit, readAt, refusalOf}
 use Rattle.pack.specs.Parsing.{parseFrom}
 use Rattle.report.specs.Text.{textOf}
-use Rattle.report.specs.Reported.{eventReport}
+use Rattle.report.specs.Reported.{reportLength, eventReport}
 use Rattle.trace.specs.declared.Place.{Place}
 use Rattle.trace.specs.declared.Part.{Part}
 use Rattle.trace.specs.Trace.{closingOf, printedOf, traceOf}
@@ -22,6 +22,10 @@ use Rattle.trace.specs.Trace.{closingOf, printedOf, traceOf}
 -- the most reports of a part
 abbrev pub reportsMost : ℕ
 reportsMost = 372
+
+-- room for a part: the closing lines are shorter than a report
+abbrev pub partLength : ℕ
+partLength = reportLength * reportsMost
 
 -- the most parts that print something of one pack
 abbrev pub partsMost : ℕ

@@ -13,13 +13,6 @@ use Rattle.trace.specs.Parts.{reportsMost, linesBy}
 use Rattle.trace.proofs.Tracing.{lines-open, lines-ended, printed, unwritten, closed, Yet, begun, reported, filled}
 use Rattle.trace.proofs.next_part.Statement.{statement}
 use Rattle.trace.proofs.next_part.Tie as tie
-use Rattle.trace.proofs.next_part.Reads as reads
-use Rattle.trace.proofs.next_part.Lts as lts
-use Rattle.pack.proofs.read_event.Reads as read-event-reads
-use Rattle.pack.proofs.read_first.Reads as read-first-reads
-use Rattle.pack.proofs.refusal.Reads as refusal-reads
-use Rattle.trace.proofs.close_at.Reads as close-at-reads
-use Rattle.trace.proofs.report_at.Reads as report-at-reads
 
 abbrev Inv-loop : tie.InvT-loop
 Inv-loop pack text₀ service₀ offset₀ start part₀ at₀ left₀ text service offset part at left = Yet pack (linesBy left₀ pack service₀ offset₀) text₀ text service offset part at left
