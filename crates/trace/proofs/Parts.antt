@@ -3,7 +3,7 @@
 use Prim.Native.Nat.{ℕ, zero, suc, _+_, _-_, _*_, _<_, _≤_}
 use native.Mathlib.Omega.{arith}
 use mathlib.Core.Bool.{Bool, true, false}
-use mathlib.Core.Path.{_≡_, refl, ap, sym, _∙_}
+use mathlib.Core.Path.{_≡_, refl, sym, _∙_}
 use mathlib.Core.List.{List, [], _++_, append-assoc, append-nil}
 use lib.ListN.{length, length-append}
 use Rattle.bits.specs.Choice.{if_then_else_}
@@ -15,12 +15,12 @@ use Rattle.pack.specs.declared.Read.the-variants as read
 use Rattle.pack.specs.Reading.{limit, readAt, refusalOf}
 use Rattle.pack.specs.Parsing.{parseFrom, parse}
 use Rattle.pack.specs.Laws.{Stops}
-use Rattle.pack.proofs.Walk.{by-kind, by-stop, event-at, event-from, from-next}
+use Rattle.pack.proofs.Walk.{by-kind, by-stop, event-at, event-within, from-next}
 use Rattle.report.specs.Text.{textOf}
 use Rattle.report.specs.Reported.{eventReport}
 use Rattle.trace.specs.declared.Place.{Place}
 use Rattle.trace.specs.Trace.{closingOf, printedOf, traceOf}
-use Rattle.trace.specs.Parts.{reportsMost, partsMost, firstPlace, Lines, linesBy, linesOf, partOf, partIn, partsBy, leftOf, PartThenRest, PartReads, PartsAreTrace}
+use Rattle.trace.specs.Parts.{reportsMost, partsMost, firstPlace, linesBy, linesOf, partOf, partIn, partsBy, leftOf, PartThenRest, PartReads, PartsAreTrace}
 use Rattle.trace.proofs.Tracing.{lines-event, lines-stop, lines-open, lines-ended}
 
 -- what the rest of a pack prints: an event's report before what follows it, and the closing lines where reading stops
@@ -82,7 +82,7 @@ read-on (suc n) pack service offset goes =
     (λ event bytes e.
     let lines = lines-event n pack service offset event bytes e in
     let at = event-at pack offset event bytes e in
-    let from = event-from pack offset event bytes e in
+    let within = event-within pack offset event bytes e in
     let later = read-on n pack (next service event) (offset + bytes) (rw lines at goes) in
     rw lines (record { on = omega arith; within = λ _. later .within (omega arith); some = λ _. omega arith }))
     (λ none. not-both (rw (lines-stop n pack service offset none)) goes)

@@ -3,8 +3,8 @@
 use Prim.Native.Nat.{ℕ, zero, suc, _+_, _-_, _*_, _<_, _≤_}
 use native.Mathlib.Omega.{arith}
 use mathlib.Core.Bool.{true, false}
-use mathlib.Core.Path.{_≡_, refl, sym, subst, _∙_}
-use mathlib.Core.List.{List, [], append-nil}
+use mathlib.Core.Path.{_≡_, refl}
+use mathlib.Core.List.{List, append-nil}
 use lib.ListN.{length, drop}
 use Rattle.bits.specs.Choice.{if_then_else_}
 use Rattle.state.specs.declared.Service.{Service}
@@ -12,17 +12,16 @@ use Rattle.events.specs.declared.Event.{Event}
 use Rattle.events.specs.Run.{next}
 use Rattle.pack.specs.declared.Read.{Read}
 use Rattle.pack.specs.declared.Read.the-variants as read
-use Rattle.pack.specs.Reading.{limit, firstOf, readAt, refusalOf}
-use Rattle.pack.specs.Laws.{PartFrom, Stops}
-use Rattle.pack.proofs.Events.{read-is-encoded}
-use Rattle.pack.proofs.Walk.{walk}
+use Rattle.pack.specs.Reading.{readAt, partAt, refusalOf}
+use Rattle.pack.specs.Laws.{Stops}
+use Rattle.pack.proofs.Walk.{part-on}
 use Rattle.report.specs.Text.{textOf}
 use Rattle.report.specs.Reported.{reportLength, eventReport}
 use Rattle.report.proofs.TextLaws.{text-lengths}
 use Rattle.trace.specs.declared.Place.{Place}
 use Rattle.trace.specs.declared.Part.{Part}
 use Rattle.trace.specs.Trace.{closingOf}
-use Rattle.trace.specs.Parts.{reportsMost, partLength, Lines, noneAt, endedAt, textThen, closedAt, linesOn, linesBy, linesOf, partOf, partIn}
+use Rattle.trace.specs.Parts.{reportsMost, partLength, placeAt, Lines, noneAt, endedAt, textThen, linesOn, linesBy, linesOf, partOf, partIn}
 use Rattle.trace.proofs.Writing.{placed, Written, write-on, WrittenAll, written-all}
 
 closing-length : (end refusal : ℕ) → length (closingOf end refusal) ≡ 19
@@ -63,49 +62,44 @@ pub printed : (pack : List ℕ) (place : Place) {before text : List ℕ} {all : 
 unfolding partOf partIn
 printed pack place e w = rw e (rw (w .left, w .size), w .buffer)
 
-pub unwritten : (all : Lines) (text : List ℕ) → Written all all text text 0
-unwritten all text = record { fits = omega arith; lines = refl; tail = refl }
-
--- the closing lines, where a reading stops
+-- the closing lines, where reading stops
 pub closed : (pack : List ℕ) (service : Service) (offset left : ℕ) {all : Lines} {before text : List ℕ} {at : ℕ}
-    → Written all (linesBy left pack service offset) before text at → (found : Read) (text′ : List ℕ) → 0 < left → at + 19 ≤ length text
-    → readAt pack offset ≡ found → Stops found → text′ ≡ placed at 19 (closingOf offset (refusalOf found)) text
-    → WrittenAll all before text′ (at + 19) (endedAt service offset)
-closed pack service offset zero written found text′ some room e stops placed = absurd (omega arith)
-closed pack service offset (suc left) written found text′ some room e stops placed =
-    let lines = lines-stop left pack service offset (rw e stops) in
-    written-all (write-on 19 (closingOf offset (refusalOf found)) (rw (lines, e) at written) room (closing-length offset (refusalOf found)) placed)
+    → Written all (linesBy left pack service offset) before text at → (text′ : List ℕ) → 0 < left → at + 19 ≤ length text → Stops (readAt pack offset)
+    → text′ ≡ placed at 19 (closingOf offset (refusalOf (readAt pack offset))) text → WrittenAll all before text′ (at + 19) (endedAt service offset)
+closed pack service offset zero written text′ some room stops placed = absurd (omega arith)
+closed pack service offset (suc left) written text′ some room stops placed =
+    let refusal = refusalOf (readAt pack offset) in
+    written-all (write-on 19 (closingOf offset refusal) (rw (lines-stop left pack service offset stops) at written) room (closing-length offset refusal) placed)
 
 -- the loop between two events
 pub record Yet (pack : List ℕ) (all : Lines) (before text : List ℕ) (service : Service) (offset : ℕ) (part : List ℕ) (at left : ℕ) : Type 0 where
-  pub rest : PartFrom pack offset part
+  pub rest : part ≡ partAt pack offset
   pub written : Written all (linesBy left pack service offset) before text at
   pub room : at + reportLength * left ≡ partLength
 
-pub begun : (pack : List ℕ) (service : Service) (offset : ℕ) (part text : List ℕ) → PartFrom pack offset part
+pub begun : (pack : List ℕ) (service : Service) (offset : ℕ) (part text : List ℕ) → part ≡ partAt pack offset
     → Yet pack (linesBy reportsMost pack service offset) text text service offset part 0 reportsMost
-begun pack service offset part text from = record { rest = from; written = unwritten _ text; room = refl }
+begun pack service offset part text e = record { rest = e; written = record { fits = omega arith; lines = refl; tail = refl }; room = refl }
 
 pub reported : {pack : List ℕ} {all : Lines} {before text : List ℕ} {service : Service} {offset : ℕ} {part : List ℕ} {at left : ℕ}
     → Yet pack all before text service offset part at left → (event : Event) (bytes : ℕ) (text′ : List ℕ) → 0 < left → at + 44 ≤ length text
-    → firstOf part ≡ read.Event event bytes → text′ ≡ placed at 44 (textOf (eventReport service event)) text
+    → readAt pack offset ≡ read.Event event bytes → text′ ≡ placed at 44 (textOf (eventReport service event)) text
     → Yet pack all before text′ (next service event) (offset + bytes) (drop bytes part) (at + 44) (left - 1)
 reported {left = zero} yet event bytes text′ some room found placed = absurd (omega arith)
-reported {pack = pack} {service = service} {offset = offset} {part = part} {left = suc left} yet event bytes text′ some room found placed =
+reported {pack = pack} {service = service} {offset = offset} {left = suc left} yet event bytes text′ some room found placed =
     let report = eventReport service event in
-    let read = walk .agrees pack offset part (yet .rest) ∙ found in
     let fewer : suc left - 1 ≡ left = omega arith in
     rw fewer
     (record {
-      rest = walk .next pack offset part event bytes (yet .rest) found .rest;
-      written = write-on 44 (textOf report) (rw (lines-event left pack service offset event bytes read) at (yet .written)) room (text-lengths report .text) placed;
+      rest = rw (yet .rest) (part-on pack offset bytes);
+      written = write-on 44 (textOf report) (rw (lines-event left pack service offset event bytes found) at (yet .written)) room (text-lengths report .text) placed;
       room = omega (arith, yet .room);
     })
 
 -- as many reports as a part can have
 pub filled : (pack : List ℕ) (service : Service) (offset left : ℕ) {all : Lines} {before text : List ℕ} {at : ℕ}
     → Written all (linesBy left pack service offset) before text at → left ≤ 0
-    → WrittenAll all before text at (record { service = service; offset = offset; ended = false })
+    → WrittenAll all before text at (placeAt service offset)
 unfolding linesBy
 filled pack service offset zero written none = written-all written
 filled pack service offset (suc left) written none = absurd (omega arith)

@@ -31,10 +31,15 @@ partLength = reportLength * reportsMost
 abbrev pub partsMost : ℕ
 partsMost = 89
 
+-- printing goes on with the event at an offset
+abbrev pub placeAt : Service → ℕ → Place
+placeAt service offset = record { service = service; offset = offset; ended = false }
+
 -- from locks 0, at the first byte of the pack
 abbrev pub firstPlace : Place
-firstPlace = record { service = newService 0; offset = 0; ended = false }
+firstPlace = placeAt (newService 0) 0
 
+-- the closing lines are printed
 abbrev pub endedAt : Service → ℕ → Place
 endedAt service offset = record { service = service; offset = offset; ended = true }
 
@@ -63,7 +68,7 @@ linesOn read.Beyond service offset from = closedAt service offset (refusalOf rea
 
 -- the lines from an offset on that at most so many readings give
 unfoldable pub linesBy : ℕ → List ℕ → Service → ℕ → Lines
-linesBy zero pack service offset = noneAt (record { service = service; offset = offset; ended = false })
+linesBy zero pack service offset = noneAt (placeAt service offset)
 linesBy (suc readings) pack service offset = linesOn (readAt pack offset) service offset (linesBy readings pack)
 
 -- the lines of the next part; none once printing has ended

@@ -4,10 +4,11 @@ ghost use mathlib.Core.List.{_++_};
 ghost use Prim.Native.Nat.{_+_, _≤_};
 ghost use lib.ListN.{length, take, drop};
 ghost use Rattle.events.specs.Run.{next};
+ghost use Rattle.pack.specs.Reading.{readAt, refusalOf};
 ghost use Rattle.report.specs.Text.{textOf};
 ghost use Rattle.report.specs.Reported.{eventReport};
 ghost use Rattle.trace.specs.Trace.{closingOf};
-ghost use Rattle.trace.specs.Parts.{firstPlace, endedAt, partOf, partIn};
+ghost use Rattle.trace.specs.Parts.{placeAt, firstPlace, endedAt, partOf, partIn};
 use events::Event;
 use pack::Read;
 use state::Service;
@@ -79,17 +80,31 @@ fn report_at(service: Service, event: Event, text: &mut [u8], at: usize) -> Serv
     reported.service
 }
 
+// Printing goes on with the event at an offset.
+fn place_at(service: Service, offset: u16) -> Place
+    ensures { λ r. ⌜ r ≡ placeAt service offset ⌝ }
+{
+    Place {
+        service,
+        offset,
+        ended: false,
+    }
+}
+
 // Nothing is printed yet. kbdtrace runs a service made with lock bits 0.
 pub fn begin() -> Place
     ensures { λ r. ⌜ r ≡ firstPlace ⌝ }
 {
     let made = service::make(0);
-    let service = made.service;
-    Place {
-        service,
-        offset: 0,
-        ended: false,
-    }
+    place_at(made.service, 0)
+}
+
+// Why no event can be read at an offset, 0 at the end.
+fn refusal_at(pack: &[u8], offset: u16) -> u8
+    ensures { λ r. ⌜ r ≡ refusalOf (readAt (now (pack .entry)) offset) ⌝ }
+{
+    let read = pack::read_event(pack, offset as usize);
+    pack::refusal(read)
 }
 
 // The next part of the text of a pack, written to the start of `text`; what stands behind it stays.
@@ -103,17 +118,13 @@ pub fn next_part(pack: &[u8], place: Place, text: &mut [u8; PART]) -> Part
     let mut service = place.service;
     let mut offset = place.offset;
     let start = offset as usize;
-    let first = pack::read_event(pack, start);
-    let Read::Event(_, _) = first else {
-        return close_at(service, offset, pack::refusal(first), text, 0);
-    };
-    let mut part = &pack[start..];
+    let mut part = pack::part_at(pack, start);
     let mut at: usize = 0;
     let mut left = REPORTS;
     while 0 < left {
         let read = pack::read_first(part);
         let Read::Event(event, bytes) = read else {
-            return close_at(service, offset, pack::refusal(read), text, at);
+            return close_at(service, offset, refusal_at(pack, offset), text, at);
         };
         service = report_at(service, event, text, at);
         part = &part[bytes..];
@@ -121,11 +132,7 @@ pub fn next_part(pack: &[u8], place: Place, text: &mut [u8; PART]) -> Part
         at += report::LENGTH;
         left -= 1;
     }
-    let next = Place {
-        service,
-        offset,
-        ended: false,
-    };
+    let next = place_at(service, offset);
     Part {
         place: next,
         length: at,
