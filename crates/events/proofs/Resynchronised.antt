@@ -1,4 +1,4 @@
--- Demand 3. From every service, reached or not, the all-up run, E and R lead to the service newly made with the same locks.
+-- From every service, reached or not, the all-up run, E and R lead to the service newly made with the same locks.
 -- Assumes nothing.
 use Prim.Native.Nat.{ℕ}
 use mathlib.Core.Path.{_≡_, refl, ap, sym, _∙_}
@@ -23,13 +23,13 @@ use Rattle.state.specs.declared.Service.{Service}
 use Rattle.events.specs.declared.Event.{Event}
 use Rattle.events.specs.declared.Event.the-variants.{Key, Empty, Restart}
 use Rattle.events.specs.declared.Outcome.{Outcome}
-use Rattle.state.specs.State.{withLocks, newService, withPort, withQueue, withLine}
+use Rattle.state.specs.State.{withLocks, withPort, withQueue, withLine}
 use Rattle.events.specs.Keyboard.{brokenOf, onEffect, typedOf, keyOf}
 use Rattle.events.specs.Outcomes.{answeredOf, offeredOf}
 use Rattle.events.specs.Step.{emptyOf, stepOf}
 use Rattle.events.specs.Commands.{restartOf}
-use Rattle.events.specs.Run.{next, run, after}
-use Rattle.events.specs.Demand3.{allUpRun, resynchronisation, standingLocks, Demand3, Call, runs, turnedAway, runCalls, afterCalls, Demand3WithRefusedReports}
+use Rattle.events.specs.Run.{next, after}
+use Rattle.events.specs.Resynchronised.{allUpRun, resynchronisation, remade, Resynchronises}
 use Rattle.events.proofs.Model.{model}
 use Rattle.events.proofs.Lists.{after-append}
 
@@ -150,7 +150,7 @@ ended : (service : Service) → after service (Empty ∷ Restart ∷ []) ≡ wit
 unfolding stepOf emptyOf restartOf answeredOf
 ended service = refl
 
-pub settles : (service : Service) → after service resynchronisation ≡ withLocks (service .shared .locks)
+settles : (service : Service) → after service resynchronisation ≡ withLocks (service .shared .locks)
 settles service =
     after-append service (map Key allUpRun) (Empty ∷ Restart ∷ [])
     ∙ ended (after service (map Key allUpRun))
@@ -163,7 +163,7 @@ settles service =
 abbrev with-bits : Bool → Bool → Bool → Bool → Service
 with-bits s n c i = withLocks (record { scroll = s; num = n; caps = c; insert = i })
 
-again : (s n c i : Bool) → newService (standingLocks (with-bits s n c i)) ≡ with-bits s n c i
+again : (s n c i : Bool) → remade (with-bits s n c i) ≡ with-bits s n c i
 unfolding model
 again true true true true = refl
 again true true true false = refl
@@ -182,47 +182,10 @@ again false false true false = refl
 again false false false true = refl
 again false false false false = refl
 
-standing : (locks : Locks) → newService (standingLocks (withLocks locks)) ≡ withLocks locks
+standing : (locks : Locks) → remade (withLocks locks) ≡ withLocks locks
 standing locks = again (locks .scroll) (locks .num) (locks .caps) (locks .insert)
 
-pub settled-as-new : (service : Service) (first : List Event)
-    → after service (first ++ resynchronisation) ≡ newService (standingLocks (after service (first ++ resynchronisation)))
-settled-as-new service first =
-    let locks = after service first .shared .locks in
-    let e : after service (first ++ resynchronisation) ≡ withLocks locks = after-append service first resynchronisation ∙ settles (after service first) in
-    e ∙ sym (ap (λ (s : Service). newService (standingLocks s)) e ∙ standing locks)
-
-pub demand-3 : Demand3
-demand-3 locks h first further = ap (λ (s : Service). run s further) (settled-as-new (newService locks) first)
-
--- ---- calls that refusal 9 turns away
-
--- the events that run
-abbrev ran : List Call → List Event
-ran [] = []
-ran (runs event ∷ more) = event ∷ ran more
-ran (turnedAway event ∷ more) = ran more
-
-ran-append : (xs ys : List Call) → ran (xs ++ ys) ≡ ran xs ++ ran ys
-ran-append [] ys = refl
-ran-append (runs event ∷ xs) ys = ap (_∷_ event) (ran-append xs ys)
-ran-append (turnedAway event ∷ xs) ys = ran-append xs ys
-
-ran-events : (events : List Event) → ran (map runs events) ≡ events
-ran-events [] = refl
-ran-events (event ∷ more) = ap (_∷_ event) (ran-events more)
-
-calls-leave : (service : Service) (calls : List Call) → afterCalls service calls ≡ after service (ran calls)
-calls-leave service [] = refl
-calls-leave service (runs event ∷ more) = calls-leave (next service event) more
-calls-leave service (turnedAway event ∷ more) = calls-leave service more
-
-pub demand-3-with-refused-reports : Demand3WithRefusedReports
-demand-3-with-refused-reports locks h first further =
-    let settled = afterCalls (newService locks) (first ++ map runs resynchronisation) in
-    let e : settled ≡ after (newService locks) (ran first ++ resynchronisation) =
-    calls-leave (newService locks) (first ++ map runs resynchronisation)
-    ∙ ap (after (newService locks)) (ran-append first (map runs resynchronisation) ∙ ap (_++_ (ran first)) (ran-events resynchronisation)) in
-    let e′ : settled ≡ newService (standingLocks settled) =
-    e ∙ settled-as-new (newService locks) (ran first) ∙ sym (ap (λ (s : Service). newService (standingLocks s)) e) in
-    ap (λ (s : Service). runCalls s further) e′
+pub resynchronises : Resynchronises
+resynchronises service =
+    let e = settles service in
+    e ∙ sym (ap remade e ∙ standing (service .shared .locks))

@@ -5,7 +5,7 @@ pub mod Functions
 pub mod Commands
 pub mod Step
 pub mod Run
-pub mod Demand3
+pub mod Resynchronised
 pub mod BenchCases
 pub mod Sent
 pub mod Ranges

@@ -11,6 +11,7 @@ use events::Outcome;
 use queue::Oldest;
 use state::Service;
 use state::flags;
+use state::status::status_high;
 use word::Word;
 
 fn oldest_answer(oldest: Oldest) -> Answer
@@ -101,7 +102,7 @@ pub fn call(service: Service, function: u8, a: u8, b: u8) -> Outcome
         return status(service, 0, flags::byte17(service));
     }
     if function == 0x12 {
-        return status(service, flags::status_high(service), flags::byte17(service));
+        return status(service, status_high(service), flags::byte17(service));
     }
     if function == 0x03 {
         return set_rate(service, a, b);

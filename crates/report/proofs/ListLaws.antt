@@ -6,12 +6,11 @@ use native.Mathlib.Omega.{arith}
 use Rattle.state.specs.State.{newService}
 use Rattle.events.specs.Step.{stepOf}
 use Rattle.events.specs.Run.{Shown, shownOf, next, run, after}
-use Rattle.events.proofs.Resynchronised.{demand-3}
 use Rattle.events.proofs.SentCounts.{sent-at-most-six}
 use Rattle.events.specs.Tags.{tagOf}
 use Rattle.report.specs.Report.{reportFrom, reportOf}
 use Rattle.report.specs.Text.{textOf}
-use Rattle.report.specs.ListLaws.{RunPrints, Demand3Printed, SentOnOneDigit}
+use Rattle.report.specs.ListLaws.{RunPrints, SentOnOneDigit}
 use Rattle.report.proofs.DigitFacts.{digit-value}
 
 pub run-prints : RunPrints
@@ -22,9 +21,6 @@ run-prints a b (event ∷ more) e =
     let later : run (next a event) more ≡ run (next b event) more = cc in
     let text = ap (λ (shown : Shown). textOf (reportFrom (tagOf event) shown)) first in
     rw (text, run-prints (next a event) (next b event) more later)
-
-pub demand-3-printed : Demand3Printed
-demand-3-printed locks most first further = run-prints _ _ further (demand-3 locks most first further)
 
 pub sent-on-one-digit : SentOnOneDigit
 unfolding textOf reportOf

@@ -1,6 +1,6 @@
-// The flag bytes of the BIOS data area, and the high byte of function 12.
+// The flag bytes of the BIOS data area.
 ghost use mathlib.Core.Path.{_≡_};
-ghost use Rattle.state.specs.Flags.{e0Open, e1Open, byte17Of, byte18Of, byte96Of, byte97Of, statusHigh};
+ghost use Rattle.state.specs.Flags.{e0Open, e1Open, byte17Of, byte18Of, byte96Of, byte97Of};
 use crate::Service;
 use port::Prefix;
 
@@ -89,22 +89,4 @@ pub fn byte97(service: Service) -> u8
 {
     let line = service.line;
     line::byte97(line)
-}
-
-// The high byte of function 12.
-pub fn status_high(service: Service) -> u8
-    ensures { λ r. ⌜ r ≡ statusHigh service ⌝ }
-{
-    let modifiers = service.port.modifiers;
-    let held = service.port.held;
-    bits::byte(
-        modifiers.ctrl.left,
-        modifiers.alt.left,
-        modifiers.ctrl.right,
-        modifiers.alt.right,
-        held.scroll,
-        held.num,
-        held.caps,
-        held.sysreq,
-    )
 }

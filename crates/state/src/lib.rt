@@ -7,6 +7,7 @@ use port::Shared;
 use queue::Queue;
 
 pub mod flags;
+pub mod status;
 
 // The order of the fields is that in which a copy is cheapest; it means nothing.
 pub struct Service {

@@ -1,0 +1,88 @@
+-- What holds of items and of lists of them. ItemLaws.antt of proofs/ proves each sentence.
+-- Assumes nothing.
+use Prim.Native.Nat.{ℕ, _<_, _≤_}
+use mathlib.Core.Path.{_≡_}
+use mathlib.Core.List.{List, [], _∷_, _++_, map}
+use lib.ListN.{length, drop}
+use Rattle.state.specs.declared.Service.{Service}
+use Rattle.events.specs.declared.Event.{Event}
+use Rattle.events.specs.Step.{stepOf}
+use Rattle.events.specs.Run.{shownOf, next, run, after}
+use Rattle.report.specs.Text.{textOf}
+use Rattle.report.specs.Reported.{reportLength, eventReport, refusalIn}
+use Rattle.lists.specs.Items.{Item, runs, reports, Seen, Stepped, stepItem, afterItems, ranItems, seenItems, shownIn}
+
+-- One item: a report by the length of its buffer.
+
+-- below 44 bytes: 9, no event, service and buffer as they were
+abbrev pub refusedStep : Service → List ℕ → Stepped
+refusedStep service buffer = record { service = service; ran = []; seen = record { shown = []; refusal = 9; buffer = buffer } }
+
+abbrev pub ShortRunsNothing : Type 0
+ShortRunsNothing =
+    (service : Service) (event : Event) (buffer : List ℕ) → length buffer < reportLength →
+    stepItem service (reports event buffer) ≡ refusedStep service buffer
+
+-- from 44 bytes on: the event as it runs without a report, its text, the tail as it was
+abbrev pub reportedStep : Service → Event → List ℕ → Stepped
+reportedStep service event buffer =
+    record {
+      service = next service event;
+      ran = runs event ∷ [];
+      seen =
+          record {
+            shown = shownOf (stepOf service event) ∷ [];
+            refusal = refusalIn (eventReport service event .ans);
+            buffer = textOf (eventReport service event) ++ drop reportLength buffer;
+          };
+    }
+
+abbrev pub LongRuns : Type 0
+LongRuns =
+    (service : Service) (event : Event) (buffer : List ℕ) → reportLength ≤ length buffer →
+    stepItem service (reports event buffer) ≡ reportedStep service event buffer
+
+-- Lists: only what ran counts.
+
+-- what ran of a list leaves the service that the list leaves
+abbrev pub ItemsLeave : Type 0
+ItemsLeave = (service : Service) (items : List Item) → afterItems service items ≡ afterItems service (ranItems service items)
+
+-- and shows what its events show
+abbrev pub ItemsShow : Type 0
+ItemsShow =
+    (service : Service) (items : List Item) → shownIn (seenItems service items) ≡ shownIn (seenItems service (ranItems service items))
+
+-- no item is left out of what is seen
+abbrev pub EachSeen : Type 0
+EachSeen = (service : Service) (items : List Item) → length (seenItems service items) ≡ length items
+
+-- a list of events, as `events` has it, is the list of items that run them
+pub record AsEvents (service : Service) (events : List Event) : Type 0 where
+  pub ran : ranItems service (map runs events) ≡ map runs events
+  pub leaves : afterItems service (map runs events) ≡ after service events
+  pub shows : shownIn (seenItems service (map runs events)) ≡ run service events
+
+abbrev pub EventsAsItems : Type 0
+EventsAsItems = (service : Service) (events : List Event) → AsEvents service events
+
+-- an item put between two others is seen there and changes nothing else
+pub record Between (service : Service) (before later : List Item) (item : Item) (seen : Seen) : Type 0 where
+  pub ran : ranItems service (before ++ (item ∷ later)) ≡ ranItems service (before ++ later)
+  pub leaves : afterItems service (before ++ (item ∷ later)) ≡ afterItems service (before ++ later)
+  pub with-it :
+      seenItems service (before ++ (item ∷ later)) ≡ seenItems service before ++ (seen ∷ seenItems (afterItems service before) later)
+  pub without-it : seenItems service (before ++ later) ≡ seenItems service before ++ seenItems (afterItems service before) later
+
+-- so it is with every item of which nothing ran
+abbrev pub NothingBetween : Type 0
+NothingBetween =
+    (service : Service) (before later : List Item) (item : Item) →
+    let stepped = stepItem (afterItems service before) item in
+    stepped .ran ≡ [] → Between service before later item (stepped .seen)
+
+-- and so with a report that 9 refuses: seen are the 9 and the buffer as it was
+abbrev pub RefusedBetween : Type 0
+RefusedBetween =
+    (service : Service) (before later : List Item) (event : Event) (buffer : List ℕ) → length buffer < reportLength →
+    Between service before later (reports event buffer) (refusedStep service buffer .seen)

@@ -1,0 +1,22 @@
+// The extended status that function 12 returns over byte 17.
+ghost use mathlib.Core.Path.{_≡_};
+ghost use Rattle.state.specs.Flags.{statusHigh};
+use crate::Service;
+
+// Its high byte.
+pub fn status_high(service: Service) -> u8
+    ensures { λ r. ⌜ r ≡ statusHigh service ⌝ }
+{
+    let modifiers = service.port.modifiers;
+    let held = service.port.held;
+    bits::byte(
+        modifiers.ctrl.left,
+        modifiers.alt.left,
+        modifiers.ctrl.right,
+        modifiers.alt.right,
+        held.scroll,
+        held.num,
+        held.caps,
+        held.sysreq,
+    )
+}
