@@ -49,7 +49,7 @@ static void feed(struct xiquepazo_service *service, const uint8_t *bytes, size_t
         struct xiquepazo_shown shown = xiquepazo_key(service, bytes[i]);
         if (shown.ans == XIQUEPAZO_DROPPED)
             printf("dropped %04X\n", shown.word);
-        if (shown.ans == XIQUEPAZO_RESTART)
+        if (shown.ans == XIQUEPAZO_RESTART_ASKED)
             printf("restart asked\n");
     }
 }

@@ -37,7 +37,7 @@ enum {
     XIQUEPAZO_PUT = 0x01,          /* `word` was put to the queue */
     XIQUEPAZO_DROPPED = 0x02,      /* `word` was dropped, since the queue was full */
     XIQUEPAZO_BREAK = 0x03,        /* Ctrl-Break: the queue holds the word 0000 alone */
-    XIQUEPAZO_RESTART = 0x04,      /* Ctrl-Alt-Del: the panel is asked to restart */
+    XIQUEPAZO_RESTART_ASKED = 0x04, /* Ctrl-Alt-Del: the panel is asked to restart */
     XIQUEPAZO_OVERRUN = 0x05,      /* the keyboard lost bytes */
     XIQUEPAZO_TAKEN = 0x06,        /* a reply was taken */
     XIQUEPAZO_IGNORED = 0x07,      /* a reply or time-out that was not awaited */
@@ -53,23 +53,31 @@ enum {
 
 /*
  * The service. Make it by xiquepazo_make, or fill it with zeros, which is a service newly made with no lock on; then leave it to the
- * calls. Flags are 0 or 1, and any other number is read as 1. 80 bytes, none of them padding.
+ * calls. Each number has a range, which no call leaves, and a number beyond it is read as the range's comment says. Flags are 0 or 1, and
+ * any other number is read as 1. 80 bytes, none of them padding.
  */
-struct xiquepazo_word {
-    uint8_t scan;
-    uint8_t ascii;
+struct xiquepazo_locks {
+    uint8_t scroll; /* flags */
+    uint8_t num;
+    uint8_t caps;
+    uint8_t insert;
 };
 
-/* `count` words from the place `head` on, round the array. `spare` is not read. */
-struct xiquepazo_queue {
-    size_t head;
-    size_t count;
-    struct xiquepazo_word words[XIQUEPAZO_WORDS];
-    uint16_t spare;
+struct xiquepazo_shared {
+    uint8_t paused; /* flag */
+    struct xiquepazo_locks locks;
+};
+
+struct xiquepazo_held {
+    uint8_t scroll; /* flags */
+    uint8_t num;
+    uint8_t caps;
+    uint8_t insert;
+    uint8_t sysreq;
 };
 
 struct xiquepazo_sides {
-    uint8_t left;
+    uint8_t left; /* flags */
     uint8_t right;
 };
 
@@ -79,73 +87,90 @@ struct xiquepazo_modifiers {
     struct xiquepazo_sides alt;
 };
 
-struct xiquepazo_held {
-    uint8_t scroll;
-    uint8_t num;
-    uint8_t caps;
-    uint8_t insert;
-    uint8_t sysreq;
-};
-
-/* `prefix`: 0 none, 1 E0, 2 E1, 3 E1 1D, 4 E1 9D, any other number none. `sum`: the Alt sum. */
 struct xiquepazo_port {
-    uint8_t prefix;
-    struct xiquepazo_modifiers modifiers;
     struct xiquepazo_held held;
-    uint8_t sum;
+    struct xiquepazo_modifiers modifiers;
+    uint8_t prefix; /* 0 none, 1 E0, 2 E1, 3 E1 1D, 4 E1 9D; any other number is none */
+    uint8_t sum;    /* the Alt sum, 0 to 255 */
 };
 
-struct xiquepazo_locks {
-    uint8_t scroll;
-    uint8_t num;
-    uint8_t caps;
-    uint8_t insert;
-};
-
-struct xiquepazo_shared {
-    struct xiquepazo_locks locks;
-    uint8_t paused;
-};
-
-/* `phase`: 0 idle, 1 a reply is awaited, 2 a poll is due, any other number idle. `kind`: 0 LED, else rate. */
-struct xiquepazo_command {
-    uint8_t phase;
-    uint8_t kind;
-    uint8_t value;
-    uint8_t operand;
-    uint8_t sends;
-    uint8_t sent;
-};
-
-/* A value, or none where `known` is 0. */
 struct xiquepazo_setting {
-    uint8_t known;
-    uint8_t value;
+    uint8_t known; /* flag; 0: there is no value, and the number is not read */
+    uint8_t value; /* a rate 0 to 127, by its last seven bits; a LED value 0 to 7, by its last three */
+};
+
+/* The command that runs. Without one the five numbers after `phase` are 0, and not read. */
+struct xiquepazo_command {
+    uint8_t phase;   /* 0 idle, 1 a reply is awaited, 2 a poll is due; any other number is idle */
+    uint8_t kind;    /* 0 LED; any other number is rate, written as 1 */
+    uint8_t value;   /* of a LED command 0 to 7, by its last three bits; of a rate command 0 to 127, by its last seven */
+    uint8_t operand; /* flag: the second byte is under way */
+    uint8_t sends;   /* of the byte under way, 0 to 3; more is 3 */
+    uint8_t sent;    /* bytes of the command, 0 to 6; more is 6 */
 };
 
 struct xiquepazo_marks {
-    uint8_t done;
-    uint8_t acknowledged;
-    uint8_t resend;
-    uint8_t abandoned;
+    uint8_t acknowledged; /* flag */
+    uint8_t abandoned;    /* flag */
+    uint8_t done;         /* LED value, 0 to 7, by its last three bits */
+    uint8_t resend;       /* flag */
 };
 
 struct xiquepazo_line {
+    struct xiquepazo_setting rate;    /* that waits */
+    struct xiquepazo_setting handled; /* LED value */
     struct xiquepazo_command command;
-    struct xiquepazo_setting handled;
-    struct xiquepazo_setting rate;
     struct xiquepazo_marks marks;
 };
 
-struct xiquepazo_service {
-    struct xiquepazo_queue queue;
-    struct xiquepazo_port port;
-    struct xiquepazo_shared shared;
-    struct xiquepazo_line line;
+struct xiquepazo_word {
+    uint8_t scan;  /* 0 to 255 */
+    uint8_t ascii; /* 0 to 255 */
 };
 
-/* The struct is laid out as the library has it, or this line does not compile. */
+/* `count` words from the place `head` on, round the first 15 places; the sixteenth is never used. */
+struct xiquepazo_queue {
+    struct xiquepazo_word words[XIQUEPAZO_WORDS + 1];
+    size_t head;  /* 0 to 14; any other number is 0 */
+    size_t count; /* 0 to 15; more is 15 */
+};
+
+struct xiquepazo_service {
+    struct xiquepazo_shared shared;
+    struct xiquepazo_port port;
+    struct xiquepazo_line line;
+    struct xiquepazo_queue queue;
+};
+
+/* The struct is laid out as the library has it, or these lines do not compile. */
+#define XIQUEPAZO_AT(member, place) (offsetof(struct xiquepazo_service, member) == (place))
 typedef char xiquepazo_service_is_80_bytes[sizeof(struct xiquepazo_service) == 80 ? 1 : -1];
+typedef char xiquepazo_shared_stands_first
+    [XIQUEPAZO_AT(shared.paused, 0) && XIQUEPAZO_AT(shared.locks.scroll, 1) && XIQUEPAZO_AT(shared.locks.num, 2)
+             && XIQUEPAZO_AT(shared.locks.caps, 3) && XIQUEPAZO_AT(shared.locks.insert, 4)
+         ? 1
+         : -1];
+typedef char xiquepazo_port_stands_at_5
+    [XIQUEPAZO_AT(port.held.scroll, 5) && XIQUEPAZO_AT(port.held.num, 6) && XIQUEPAZO_AT(port.held.caps, 7) && XIQUEPAZO_AT(port.held.insert, 8)
+             && XIQUEPAZO_AT(port.held.sysreq, 9) && XIQUEPAZO_AT(port.modifiers.shift.left, 10) && XIQUEPAZO_AT(port.modifiers.shift.right, 11)
+             && XIQUEPAZO_AT(port.modifiers.ctrl.left, 12) && XIQUEPAZO_AT(port.modifiers.ctrl.right, 13) && XIQUEPAZO_AT(port.modifiers.alt.left, 14)
+             && XIQUEPAZO_AT(port.modifiers.alt.right, 15) && XIQUEPAZO_AT(port.prefix, 16) && XIQUEPAZO_AT(port.sum, 17)
+         ? 1
+         : -1];
+typedef char xiquepazo_line_stands_at_18
+    [XIQUEPAZO_AT(line.rate.known, 18) && XIQUEPAZO_AT(line.rate.value, 19) && XIQUEPAZO_AT(line.handled.known, 20)
+             && XIQUEPAZO_AT(line.handled.value, 21) && XIQUEPAZO_AT(line.command.phase, 22) && XIQUEPAZO_AT(line.command.kind, 23)
+             && XIQUEPAZO_AT(line.command.value, 24) && XIQUEPAZO_AT(line.command.operand, 25) && XIQUEPAZO_AT(line.command.sends, 26)
+             && XIQUEPAZO_AT(line.command.sent, 27) && XIQUEPAZO_AT(line.marks.acknowledged, 28) && XIQUEPAZO_AT(line.marks.abandoned, 29)
+             && XIQUEPAZO_AT(line.marks.done, 30) && XIQUEPAZO_AT(line.marks.resend, 31)
+         ? 1
+         : -1];
+typedef char xiquepazo_queue_stands_at_32
+    [XIQUEPAZO_AT(queue.words[0].scan, 32) && XIQUEPAZO_AT(queue.words[0].ascii, 33) && XIQUEPAZO_AT(queue.words[XIQUEPAZO_WORDS].ascii, 63)
+             && XIQUEPAZO_AT(queue.head, 64) && XIQUEPAZO_AT(queue.count, 72)
+         ? 1
+         : -1];
+#undef XIQUEPAZO_AT
 
 /*
  * What is seen of an event: its answer, its word (put, dropped, returned, a status, or to be sent, else 0), the count of bytes sent by

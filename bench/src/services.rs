@@ -19,7 +19,6 @@ pub fn measure() {
     );
     println!("  call            proved M/s   reference M/s   ratio");
     print_row("event", &events, by_event, Service::event);
-    print_row("its own call", &events, by_its_own_call, Service::event);
     print_row("report", &events, report_proved, report_reference);
 }
 
@@ -31,16 +30,6 @@ fn events() -> Vec<Event> {
 
 fn by_event(image: &mut Image, event: &Event) -> Outcome {
     image.event(event)
-}
-
-/// By `key`, `call` or `poll` where the event has one of them, else by `event`.
-fn by_its_own_call(image: &mut Image, event: &Event) -> Outcome {
-    match *event {
-        Event::Key(byte) => image.key(byte),
-        Event::Call(function, a, b) => image.call(function, a, b),
-        Event::Poll => image.poll(),
-        _ => image.event(event),
-    }
 }
 
 fn report_proved(image: &mut Image, event: &Event) -> [u8; REPORT_LENGTH] {

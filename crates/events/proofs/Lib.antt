@@ -4,4 +4,5 @@ pub mod Resynchronised
 pub mod Bench
 pub mod RefusedCalls
 pub mod SentCounts
+pub mod Ranges
 pub mod QueueListed

@@ -8,5 +8,6 @@ pub mod Run
 pub mod Resynchronised
 pub mod BenchCases
 pub mod Sent
+pub mod Ranges
 pub mod Refused
 pub mod Queued

@@ -2,16 +2,21 @@
 -- Assumes nothing.
 use mathlib.Core.Path.{_≡_}
 use lib.ListN.{replicate}
-use Rattle.queue.specs.Queue.{capacity}
+use Rattle.queue.specs.Queue.{arrayLength}
 use Rattle.state.specs.declared.Service.{Service}
 use Rattle.state.specs.State.{newService}
+use Rattle.state.specs.Ranges.{InRange}
 use Rattle.image.specs.declared.Image.{Image}
 use Rattle.image.specs.declared.SidesImage.{SidesImage}
 use Rattle.image.specs.Image.{imageOf, serviceOf}
 
--- every service comes back from its image
+-- every image is read as a service whose numbers are in range
+abbrev pub ReadsInRange : Type 0
+ReadsInRange = (image : Image) → InRange (serviceOf image)
+
+-- and such a service comes back from its image
 abbrev pub ComesBack : Type 0
-ComesBack = (service : Service) → serviceOf (imageOf service) ≡ service
+ComesBack = (service : Service) → InRange service → serviceOf (imageOf service) ≡ service
 
 -- the image whose numbers are all 0
 abbrev pub up : SidesImage
@@ -20,7 +25,7 @@ up = record { left = 0; right = 0 }
 abbrev pub zeros : Image
 zeros =
     record {
-      queue = record { head = 0; count = 0; words = replicate capacity (record { scan = 0; ascii = 0 }); spare = 0 };
+      queue = record { head = 0; count = 0; words = replicate arrayLength (record { scan = 0; ascii = 0 }) };
       port =
           record {
             prefix = 0;

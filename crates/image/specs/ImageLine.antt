@@ -1,6 +1,6 @@
 -- Lines as numbers, and what any such numbers mean.
 -- Assumes nothing.
-use Prim.Native.Nat.{ℕ}
+use Prim.Native.Nat.{ℕ, min, _%_}
 use lib.Dec.{eqb}
 use Rattle.bits.specs.Choice.{if_then_else_}
 use Rattle.line.specs.declared.Kind.{Kind}
@@ -12,6 +12,7 @@ use Rattle.line.specs.declared.Setting.{Setting}
 use Rattle.line.specs.declared.Setting.the-variants.{None, Value}
 use Rattle.line.specs.declared.Marks.{Marks}
 use Rattle.line.specs.declared.Line.{Line}
+use Rattle.line.specs.Ranges.{ledValues, rateValues}
 use Rattle.image.specs.declared.CommandImage.{CommandImage}
 use Rattle.image.specs.declared.SettingImage.{SettingImage}
 use Rattle.image.specs.declared.MarksImage.{MarksImage}
@@ -29,8 +30,8 @@ abbrev pub settingImage : Setting → SettingImage
 settingImage None = record { known = 0; value = 0 }
 settingImage (Value value) = record { known = 1; value = value }
 
-unfoldable pub settingAt : SettingImage → Setting
-settingAt image = if eqb (image .known) 0 then None else Value (image .value)
+unfoldable pub settingAt : ℕ → ℕ → Setting
+settingAt known value = if eqb known 0 then None else Value value
 
 abbrev pub commandImage : ℕ → Command → CommandImage
 commandImage phase command =
@@ -43,14 +44,19 @@ commandImage phase command =
       sent = command .sent;
     }
 
+-- of a command's value the bits that its kind has
+unfoldable pub valueAt : ℕ → ℕ → ℕ
+valueAt kind value = if eqb kind 0 then value % ledValues else value % rateValues
+
+-- more sends than a byte has are read as three, more bytes than a command sends as six
 abbrev pub commandAt : CommandImage → Command
 commandAt image =
     record {
       kind = kindAt (image .kind);
-      value = image .value;
+      value = valueAt (image .kind) (image .value);
       operand = isSet (image .operand);
-      sends = image .sends;
-      sent = image .sent;
+      sends = min (image .sends) 3;
+      sent = min (image .sent) 6;
     }
 
 -- an idle line is 0, an awaited reply 1, a poll that is due 2
@@ -78,7 +84,7 @@ marksImage marks =
 abbrev pub marksAt : MarksImage → Marks
 marksAt image =
     record {
-      done = image .done;
+      done = image .done % ledValues;
       acknowledged = isSet (image .acknowledged);
       resend = isSet (image .resend);
       abandoned = isSet (image .abandoned);
@@ -97,7 +103,7 @@ unfoldable pub lineAt : LineImage → Line
 lineAt image =
     record {
       phase = phaseAt (image .command);
-      handled = settingAt (image .handled);
-      rate = settingAt (image .rate);
+      handled = settingAt (image .handled .known) (image .handled .value % ledValues);
+      rate = settingAt (image .rate .known) (image .rate .value % rateValues);
       marks = marksAt (image .marks);
     }

@@ -34,9 +34,9 @@ pub struct HeldImage {
 // `prefix` is 0 for none, 1 for E0, 2 for E1, 3 for E1 1D, 4 for E1 9D; any other number is read as none.
 #[repr(C)]
 pub struct PortImage {
-    pub prefix: u8,
-    pub modifiers: ModifiersImage,
     pub held: HeldImage,
+    pub modifiers: ModifiersImage,
+    pub prefix: u8,
     pub sum: u8,
 }
 
@@ -50,8 +50,8 @@ pub struct LocksImage {
 
 #[repr(C)]
 pub struct SharedImage {
-    pub locks: LocksImage,
     pub paused: u8,
+    pub locks: LocksImage,
 }
 
 #[repr(C)]
@@ -60,13 +60,11 @@ pub struct WordImage {
     pub ascii: u8,
 }
 
-// `spare` fills the last two bytes, which C would leave as padding; it is not read.
 #[repr(C)]
 pub struct QueueImage {
+    pub words: [WordImage; 16],
     pub head: usize,
     pub count: usize,
-    pub words: [WordImage; 15],
-    pub spare: u16,
 }
 
 // `phase` is 0 for idle, 1 while a reply is awaited, 2 where a poll is due; any other number is read as idle. `kind` is 0 for a LED command, else a
@@ -90,27 +88,27 @@ pub struct SettingImage {
 
 #[repr(C)]
 pub struct MarksImage {
-    pub done: u8,
     pub acknowledged: u8,
-    pub resend: u8,
     pub abandoned: u8,
+    pub done: u8,
+    pub resend: u8,
 }
 
 #[repr(C)]
 pub struct LineImage {
-    pub command: CommandImage,
-    pub handled: SettingImage,
     pub rate: SettingImage,
+    pub handled: SettingImage,
+    pub command: CommandImage,
     pub marks: MarksImage,
 }
 
 // 80 bytes, none of them padding.
 #[repr(C)]
 pub struct Image {
-    pub queue: QueueImage,
-    pub port: PortImage,
     pub shared: SharedImage,
+    pub port: PortImage,
     pub line: LineImage,
+    pub queue: QueueImage,
 }
 
 pub fn image_of(service: Service) -> Image

@@ -1,6 +1,7 @@
 // Lines, to numbers and back.
+ghost use Prim.Native.Nat.{min, _%_};
 ghost use mathlib.Core.Path.{_≡_};
-ghost use Rattle.image.specs.ImageLine.{kindNumber, kindAt, settingImage, settingAt, commandImage, commandAt, phaseImage, phaseAt, lineImage, lineAt};
+ghost use Rattle.image.specs.ImageLine.{kindNumber, kindAt, settingImage, settingAt, valueAt, commandImage, commandAt, phaseImage, phaseAt, lineImage, lineAt};
 use crate::CommandImage;
 use crate::LineImage;
 use crate::MarksImage;
@@ -11,6 +12,11 @@ use line::Line;
 use line::Marks;
 use line::Phase;
 use line::Setting;
+
+// How many values a LED command has, and a rate command.
+const LED_VALUES: u8 = 8;
+
+const RATE_VALUES: u8 = 128;
 
 fn kind_number(kind: Kind) -> u8
     ensures { λ r. ⌜ r ≡ kindNumber kind ⌝ }
@@ -39,13 +45,28 @@ fn setting_image(setting: Setting) -> SettingImage
     }
 }
 
-fn setting_of(image: SettingImage) -> Setting
-    ensures { λ r. ⌜ r ≡ settingAt image ⌝ }
+fn setting_of(known: u8, value: u8) -> Setting
+    ensures { λ r. ⌜ r ≡ settingAt known value ⌝ }
 {
-    if image.known == 0 {
+    if known == 0 {
         return Setting::None;
     }
-    Setting::Value(image.value)
+    Setting::Value(value)
+}
+
+fn value_of(kind: u8, value: u8) -> u8
+    ensures { λ r. ⌜ r ≡ valueAt kind value ⌝ }
+{
+    if kind == 0 {
+        return value % LED_VALUES;
+    }
+    value % RATE_VALUES
+}
+
+fn at_most(number: u8, most: u8) -> u8
+    ensures { λ r. ⌜ r ≡ min number most ⌝ }
+{
+    if number < most { number } else { most }
 }
 
 fn command_image(phase: u8, command: Command) -> CommandImage
@@ -67,10 +88,10 @@ fn command_of(image: CommandImage) -> Command
 {
     Command {
         kind: kind_of(image.kind),
-        value: image.value,
+        value: value_of(image.kind, image.value),
         operand: image.operand != 0,
-        sends: image.sends,
-        sent: image.sent,
+        sends: at_most(image.sends, 3),
+        sent: at_most(image.sent, 6),
     }
 }
 
@@ -132,10 +153,10 @@ pub fn line_of(image: LineImage) -> Line
     let marks = image.marks;
     Line {
         phase: phase_of(command),
-        handled: setting_of(handled),
-        rate: setting_of(rate),
+        handled: setting_of(handled.known, handled.value % LED_VALUES),
+        rate: setting_of(rate.known, rate.value % RATE_VALUES),
         marks: Marks {
-            done: marks.done,
+            done: marks.done % LED_VALUES,
             acknowledged: marks.acknowledged != 0,
             resend: marks.resend != 0,
             abandoned: marks.abandoned != 0,

@@ -1,13 +1,16 @@
 // Queues, to numbers and back.
 ghost use mathlib.Core.Path.{_≡_};
 ghost use mathlib.Core.List.{map};
-ghost use Rattle.image.specs.ImageQueue.{wordImage, wordAtImage, queueImage, queueAt};
+ghost use Prim.Native.Nat.{min};
+ghost use Rattle.image.specs.ImageQueue.{wordImage, wordAtImage, headAt, queueImage, queueAt};
 use crate::QueueImage;
 use crate::WordImage;
 use queue::Queue;
 use word::Word;
 
-const PLACES: usize = 15;
+const CAPACITY: usize = 15;
+
+const PLACES: usize = 16;
 
 fn word_image(word: Word) -> WordImage
     ensures { λ r. ⌜ r ≡ wordImage word ⌝ }
@@ -57,8 +60,19 @@ pub fn image_of(queue: Queue) -> QueueImage
         head: queue.head,
         count: queue.count,
         words: images,
-        spare: 0,
     }
+}
+
+fn head_of(head: usize) -> usize
+    ensures { λ r. ⌜ r ≡ headAt head ⌝ }
+{
+    if head < CAPACITY { head } else { 0 }
+}
+
+fn count_of(count: usize) -> usize
+    ensures { λ r. ⌜ r ≡ min count 15 ⌝ }
+{
+    if count < CAPACITY { count } else { CAPACITY }
 }
 
 pub fn queue_of(image: QueueImage) -> Queue
@@ -68,7 +82,7 @@ pub fn queue_of(image: QueueImage) -> Queue
     let words = words_of(images);
     Queue {
         words,
-        head: image.head,
-        count: image.count,
+        head: head_of(image.head),
+        count: count_of(image.count),
     }
 }

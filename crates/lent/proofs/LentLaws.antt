@@ -5,13 +5,12 @@ use borrow.Author.Tests.{lt-ltb, le-ltb}
 use Rattle.bits.specs.Choice.{if_then_else_}
 use Rattle.bits.proofs.Choice.{by-test}
 use Rattle.state.specs.State.{makeOf}
-use Rattle.events.specs.Step.{stepOf}
 use Rattle.events.proofs.RefusedCalls.{refused-answer}
 use Rattle.report.specs.declared.Reported.{Reported}
 use Rattle.report.specs.Reported.{reportedOf, tooShort}
 use Rattle.report.proofs.BufferLaws.{short-refused}
-use Rattle.lent.specs.Lent.{madeIn, eventIn, keyIn, callIn, pollIn, reportedIn}
-use Rattle.lent.specs.LentLaws.{Makes, RefusedLeaves, OneKind, ShortUntouched, RefusedReportLeaves}
+use Rattle.lent.specs.Lent.{madeIn, eventIn, reportedIn}
+use Rattle.lent.specs.LentLaws.{Makes, RefusedLeaves, ShortUntouched, RefusedReportLeaves}
 
 pub makes : Makes
 unfolding madeIn makeOf if_then_else_
@@ -23,10 +22,6 @@ makes = record {
 pub refused-leaves : RefusedLeaves
 unfolding eventIn
 refused-leaves service event refused is = refused-answer service event refused is
-
-pub one-kind : OneKind
-unfolding eventIn keyIn callIn pollIn stepOf
-one-kind = record { key = λ service byte. refl; call = λ service function a b. refl; poll = λ service. refl }
 
 pub short-untouched : ShortUntouched
 unfolding reportedIn

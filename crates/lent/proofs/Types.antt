@@ -1,4 +1,4 @@
--- The service, the replies and the outcomes as plain data.
+-- The service, what an event answers and the outcomes as plain data.
 -- Assumes nothing.
 use mathlib.Core.Path.{refl}
 use mathlib.Core.List.{[]}
@@ -8,8 +8,8 @@ use Rattle.state.proofs.Service as Service
 use Rattle.state.proofs.Service.Laws as Service′
 use Rattle.events.proofs.Event as Event
 use Rattle.events.proofs.Event.Laws as Event′
-use Rattle.lent.proofs.Reply as Reply
-use Rattle.lent.proofs.Reply.Laws as Reply′
+use Rattle.lent.proofs.Answered as Answered
+use Rattle.lent.proofs.Answered.Laws as Answered′
 use Rattle.lent.proofs.Stepped as Stepped
 use Rattle.lent.proofs.Stepped.Laws as Stepped′
 use Rattle.lent.proofs.Tried as Tried
@@ -25,15 +25,15 @@ service-name = tyNamed (Service.the-type .name, [])
 abbrev pub event : Plain
 event = enum Event.the-type Event′.the-laws Event′.the-plain tt
 
-abbrev pub reply : Plain
-reply = struct Reply.the-type Reply′.the-laws Reply′.the-plain
+abbrev pub answered : Plain
+answered = struct Answered.the-type Answered′.the-laws Answered′.the-plain
 
-abbrev pub stepped : Outcome service reply
+abbrev pub stepped : Outcome service answered
 stepped = record {
   Denot = Stepped.the-type .D;
   left = λ r. r .service;
-  reply = λ r. r .reply;
-  make = λ x y. record { service = x; reply = y };
+  reply = λ r. r .answered;
+  make = λ x y. record { service = x; answered = y };
   eta = λ r. refl;
   name = Stepped.the-type .name;
   written = Stepped.the-row .written;
@@ -44,7 +44,7 @@ stepped = record {
   typed = λ 𝓤 H A W r v is. LL.lawful Stepped.the-type Stepped′.the-laws 𝓤 H A W .typed r _ is .0;
   makes = λ 𝓤 H A W. LL.makes Stepped.the-type Stepped′.the-plain 𝓤 H A;
   parts = λ r vs is. let of = LL.owed Stepped.the-type Stepped′.the-laws r vs is in (of .0, of .1 .0);
-  owes = λ x y is-x is-y. LL.owes Stepped.the-type Stepped′.the-laws (record { service = x; reply = y }) (is-x, (is-y, tt));
+  owes = λ x y is-x is-y. LL.owes Stepped.the-type Stepped′.the-laws (record { service = x; answered = y }) (is-x, (is-y, tt));
 }
 
 abbrev pub tried : Outcome service byte

@@ -9,13 +9,10 @@ use Rattle.events.specs.declared.Event.{Event}
 use Rattle.events.specs.declared.Outcome.{Outcome}
 use Rattle.state.specs.declared.Made.{Made}
 use Rattle.state.specs.State.{makeOf}
-use Rattle.events.specs.Keyboard.{keyOf}
-use Rattle.events.specs.Functions.{callOf}
-use Rattle.events.specs.Commands.{pollOf}
 use Rattle.events.specs.Step.{stepOf}
 use Rattle.report.specs.declared.Reported.{Reported}
 use Rattle.report.specs.Reported.{reportedOf}
-use Rattle.lent.specs.declared.Reply.{Reply}
+use Rattle.lent.specs.declared.Answered.{Answered}
 use Rattle.lent.specs.declared.Stepped.{Stepped}
 use Rattle.lent.specs.declared.Tried.{Tried}
 
@@ -28,23 +25,14 @@ triedOf service made =
 unfoldable pub madeIn : Service → ℕ → Tried
 madeIn service bits = triedOf service (makeOf bits)
 
-abbrev pub replyOf : Outcome → Reply
-replyOf outcome = record { answer = outcome .answer; sent = outcome .sent }
+abbrev pub answeredOf : Outcome → Answered
+answeredOf outcome = record { answer = outcome .answer; sent = outcome .sent }
 
 abbrev pub steppedOf : Outcome → Stepped
-steppedOf outcome = record { service = outcome .service; reply = replyOf outcome }
+steppedOf outcome = record { service = outcome .service; answered = answeredOf outcome }
 
 unfoldable pub eventIn : Service → Event → Stepped
 eventIn service event = steppedOf (stepOf service event)
-
-unfoldable pub keyIn : Service → ℕ → Stepped
-keyIn service byte = steppedOf (keyOf service byte)
-
-unfoldable pub callIn : Service → ℕ → ℕ → ℕ → Stepped
-callIn service function a b = steppedOf (callOf service function a b)
-
-unfoldable pub pollIn : Service → Stepped
-pollIn service = steppedOf (pollOf service)
 
 abbrev pub tellsOf : Reported → Tried
 tellsOf reported = record { service = reported .service; refusal = reported .refusal }

@@ -6,13 +6,12 @@ use mathlib.Core.List.{List}
 use lib.ListN.{length}
 use Rattle.state.specs.declared.Service.{Service}
 use Rattle.events.specs.declared.Event.{Event}
-use Rattle.events.specs.declared.Event.the-variants.{Key, Call, Poll}
 use Rattle.answers.specs.declared.Refusal.{Refusal}
 use Rattle.answers.specs.declared.Answer.the-variants.{Refused}
 use Rattle.state.specs.State.{newService}
 use Rattle.events.specs.Step.{stepOf}
 use Rattle.report.specs.Reported.{reportLength, bufferOf}
-use Rattle.lent.specs.Lent.{madeIn, eventIn, keyIn, callIn, pollIn, reportedIn}
+use Rattle.lent.specs.Lent.{madeIn, eventIn, reportedIn}
 
 -- 1: lock bits above 15 leave the service that is lent; others make a new one of it
 pub record Makes : Type 0 where
@@ -22,14 +21,8 @@ pub record Makes : Type 0 where
 -- 2 to 5: an event that is refused
 abbrev pub RefusedLeaves : Type 0
 RefusedLeaves =
-    (service : Service) (event : Event) (refusal : Refusal) → eventIn service event .reply .answer ≡ Refused refusal →
+    (service : Service) (event : Event) (refusal : Refusal) → eventIn service event .answered .answer ≡ Refused refusal →
     eventIn service event .service ≡ service
-
--- the calls for one kind of event are that event
-pub record OneKind : Type 0 where
-  pub key : (service : Service) (byte : ℕ) → keyIn service byte ≡ eventIn service (Key byte)
-  pub call : (service : Service) (function a b : ℕ) → callIn service function a b ≡ eventIn service (Call function a b)
-  pub poll : (service : Service) → pollIn service ≡ eventIn service Poll
 
 -- 9 leaves the service and every byte of the buffer
 pub record Untouched (service : Service) (event : Event) (buffer : List ℕ) : Type 0 where

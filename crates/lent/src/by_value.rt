@@ -1,8 +1,8 @@
 // What each lent call does, by value: the service that it leaves and what it returns.
 ghost use mathlib.Core.Path.{_≡_};
 ghost use Rattle.report.specs.Reported.{bufferOf};
-ghost use Rattle.lent.specs.Lent.{madeIn, steppedOf, eventIn, keyIn, callIn, pollIn, reportedIn};
-use crate::Reply;
+ghost use Rattle.lent.specs.Lent.{madeIn, steppedOf, eventIn, reportedIn};
+use crate::Answered;
 use crate::Stepped;
 use crate::Tried;
 use events::Event;
@@ -32,7 +32,7 @@ fn stepped(outcome: Outcome) -> Stepped
     let answer = outcome.answer;
     Stepped {
         service,
-        reply: Reply {
+        answered: Answered {
             answer,
             sent: outcome.sent,
         },
@@ -43,24 +43,6 @@ pub fn event(service: Service, event: Event) -> Stepped
     ensures { λ r. ⌜ r ≡ eventIn service event ⌝ }
 {
     stepped(service::step(service, event))
-}
-
-pub fn key(service: Service, byte: u8) -> Stepped
-    ensures { λ r. ⌜ r ≡ keyIn service byte ⌝ }
-{
-    stepped(events_keyboard::key(service, byte))
-}
-
-pub fn call(service: Service, function: u8, a: u8, b: u8) -> Stepped
-    ensures { λ r. ⌜ r ≡ callIn service function a b ⌝ }
-{
-    stepped(events_functions::call(service, function, a, b))
-}
-
-pub fn poll(service: Service) -> Stepped
-    ensures { λ r. ⌜ r ≡ pollIn service ⌝ }
-{
-    stepped(events_commands::poll(service))
 }
 
 pub fn report(service: Service, event: Event, buffer: &mut [u8]) -> Tried

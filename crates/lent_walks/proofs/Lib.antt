@@ -1,7 +1,6 @@
 pub mod Plain
-pub mod LentAlone
 pub mod LentWithOne
-pub mod LentWithThree
 pub mod LentWithBuffer
 pub mod LentCopy
+pub mod LentCopyWithBuffer
 pub mod Looked

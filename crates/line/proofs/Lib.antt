@@ -1,5 +1,6 @@
 pub mod Cases
 pub mod Within
+pub mod Ranges
 pub mod Counts
 pub mod Settled
 pub mod Operand

@@ -4,3 +4,4 @@ pub mod Reply
 pub mod Byte97
 pub mod Inputs
 pub mod Laws
+pub mod Ranges

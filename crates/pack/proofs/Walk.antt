@@ -34,7 +34,7 @@ on-stop read.TooLong start from none = refl
 on-stop read.Beyond start from none = refl
 
 -- an event or the end that is read at a start stands first in the part from there on
-event-there : (pack : List ℕ) (start : ℕ) (event : Event) (bytes : ℕ) → readAt pack start ≡ read.Event event bytes → firstOf (drop start pack) ≡ read.Event event bytes
+pub event-there : (pack : List ℕ) (start : ℕ) (event : Event) (bytes : ℕ) → readAt pack start ≡ read.Event event bytes → firstOf (drop start pack) ≡ read.Event event bytes
 unfolding readAt
 event-there pack start event bytes =
     let Is : Read → Type 0 = λ found. found ≡ read.Event event bytes → firstOf (drop start pack) ≡ read.Event event bytes in

@@ -36,10 +36,10 @@ pub struct Held {
 
 // What belongs to one port. `sum` is the Alt sum.
 pub struct Port {
-    pub sum: u8,
     pub held: Held,
     pub modifiers: Modifiers,
     pub prefix: Prefix,
+    pub sum: u8,
 }
 
 pub struct Locks {
@@ -51,8 +51,8 @@ pub struct Locks {
 
 // What all ports share.
 pub struct Shared {
-    pub locks: Locks,
     pub paused: bool,
+    pub locks: Locks,
 }
 
 // What a byte asks of the service.

@@ -6,15 +6,16 @@ use mathlib.Core.List.{List, [], _∷_}
 use Prim.Native.Nat.{_<_}
 use native.Mathlib.Nat.{eq-or-lt-of-le}
 use native.Mathlib.Omega.{arith}
-use borrow.Author.Tests.{lt-ltb, le-ltb}
+use lib.Dec.{ltb}
+use borrow.Author.Tests.{lt-ltb, le-ltb, ltb-true}
 use lib.ListN.{length, length-set}
 use Rattle.bits.specs.Choice.{if_then_else_}
-use Rattle.bits.proofs.Choice.{either}
+use Rattle.bits.proofs.Choice.{by-test, either}
 use Rattle.word.specs.declared.Word.{Word}
 use Rattle.queue.specs.declared.Queue.{Queue}
 use Rattle.queue.specs.declared.AfterPut.{AfterPut}
 use Rattle.queue.specs.Queue.{capacity, heldIn, emptyQueue, putOf, restOf, takeOf}
-use Rattle.queue.specs.Words.{wordsOf, Whole, AtMostCapacity, EmptyHoldsNone, PutAppends, PutDrops, TakeRemoves, TakeOfNone, StaysWhole, putIn, PutAsListed, TakeAsListed, AsListed}
+use Rattle.queue.specs.Words.{wordsOf, Whole, AtMostCapacity, EmptyHoldsNone, PutAppends, PutDrops, TakeRemoves, TakeOfNone, StaysWhole, QueueInRange, QueueStaysInRange, putIn, PutAsListed, TakeAsListed, AsListed}
 use Rattle.queue.proofs.Calls.{put-room, put-full, oldest-none, oldest-some, rest-none, rest-some}
 use Rattle.queue.proofs.Ring.{words-length, words-longer, words-split}
 
@@ -56,6 +57,16 @@ stays-whole =
       empty = record { places = refl };
       put = λ queue word whole. either (λ (after : AfterPut). Whole (after .queue)) _ _ _ (record { places = length-set (queue .words) _ word ∙ whole .places }) whole;
       take = λ queue whole. either Whole _ _ _ whole (record { places = whole .places });
+    }
+
+pub queue-stays-in-range : QueueStaysInRange
+unfolding emptyQueue putOf takeOf restOf
+queue-stays-in-range =
+    record {
+      empty = record { head = omega arith; count = omega arith };
+      put = λ queue word within. by-test (λ (after : AfterPut). QueueInRange (after .queue)) (ltb (heldIn queue) capacity) _ _
+          (λ room. let less : heldIn queue < capacity = ltb-true _ _ room in record { head = within .head; count = omega arith }) (λ _. within);
+      take = λ queue within. either QueueInRange _ _ _ within (record { head = omega arith; count = omega (arith, within .count) });
     }
 
 listed-drop : (queue : Queue) (word : Word) → length (wordsOf queue) ≡ capacity → PutAsListed queue word

@@ -1,4 +1,4 @@
--- What is known of words read round an array of 15 places.
+-- What is known of words read round the 15 places of a queue.
 -- Assumes nothing.
 use mathlib.Core.Path.{_≡_, refl, _∙_, ap}
 use mathlib.Core.Logic.{_≢_}

@@ -17,15 +17,19 @@ use Rattle.queue.specs.declared.Taken.{Taken}
 abbrev pub capacity : ℕ
 capacity = 15
 
+-- how many places the array has; the last is never used
+abbrev pub arrayLength : ℕ
+arrayLength = 16
+
 -- what stands where nothing was put yet
 abbrev pub blank : Word
 blank = wordWith (codeOf 0x00) (asciiOf 0x00)
 
 -- the queue of a new service, and of one that was emptied
 unfoldable pub emptyQueue : Queue
-emptyQueue = record { words = replicate capacity blank; head = 0; count = 0 }
+emptyQueue = record { words = replicate arrayLength blank; head = 0; count = 0 }
 
--- the place of the word that has so many older ones, round the array from the head on
+-- the place of the word that has so many older ones, round the places from the head on
 abbrev pub placeOf : ℕ → ℕ → ℕ
 placeOf head older = (head % capacity + older) % capacity
 

@@ -11,9 +11,9 @@ use Rattle.word.specs.declared.Word.{Word}
 use Rattle.queue.specs.declared.Queue.{Queue}
 use Rattle.queue.specs.declared.Oldest.{Oldest}
 use Rattle.queue.specs.declared.Oldest.the-variants.{None, Is}
-use Rattle.queue.specs.Queue.{capacity, blank, heldIn, emptyQueue, oldestOf, putOf, takeOf}
+use Rattle.queue.specs.Queue.{capacity, arrayLength, blank, heldIn, emptyQueue, oldestOf, putOf, takeOf}
 
--- so many words, round the array from a place on
+-- so many words, round the 15 places from a place on
 abbrev pub ring : List Word → ℕ → ℕ → List Word
 ring words place zero = []
 ring words place (suc many) = getD words (place % capacity) blank ∷ ring words (suc place) many
@@ -24,7 +24,7 @@ wordsOf queue = ring (queue .words) (queue .head) (heldIn queue)
 
 -- the array has all its places, as in the code it always has; here it is a list, which could be shorter
 pub record Whole (queue : Queue) : Type 0 where
-  pub places : length (queue .words) ≡ capacity
+  pub places : length (queue .words) ≡ arrayLength
 
 -- a queue never holds more than 15 words
 abbrev pub AtMostCapacity : Type 0
@@ -57,6 +57,17 @@ TakeRemoves = (queue : Queue) (word : Word) (later : List Word) → wordsOf queu
 -- a take from no words gives none and changes nothing
 abbrev pub TakeOfNone : Type 0
 TakeOfNone = (queue : Queue) → wordsOf queue ≡ [] → takeOf queue ≡ record { oldest = None; queue = queue }
+
+-- the head is a place that is used, and the count no more than there is room for
+pub record QueueInRange (queue : Queue) : Type 0 where
+  pub head : queue .head < capacity
+  pub count : queue .count ≤ capacity
+
+-- every call keeps a queue in range
+pub record QueueStaysInRange : Type 0 where
+  pub empty : QueueInRange emptyQueue
+  pub put : (queue : Queue) (word : Word) → QueueInRange queue → QueueInRange (putOf queue word .queue)
+  pub take : (queue : Queue) → QueueInRange queue → QueueInRange (takeOf queue .queue)
 
 -- no call loses a place of the array
 pub record StaysWhole : Type 0 where

@@ -1,14 +1,17 @@
 // The queue of 15 words. Every value of the struct is a queue, so no call requires anything:
-// a place beyond the array's end goes on at its start, and a count above 15 stands for 15.
+// a place beyond the fifteenth goes on at the first, and a count above 15 stands for 15.
 ghost use mathlib.Core.Path.{_≡_};
 ghost use Rattle.queue.specs.Queue.{emptyQueue, placeOf, heldIn, oldestOf, restOf, putOf, takeOf};
 use word::Word;
 
 const CAPACITY: usize = 15;
 
-// The words from the place `head` on, `count` of them, round the array.
+// One place more than words, never used: 32 bytes are copied in whole pieces, 30 are not.
+const PLACES: usize = 16;
+
+// The words from the place `head` on, `count` of them, round the first 15 places.
 pub struct Queue {
-    pub words: [Word; CAPACITY],
+    pub words: [Word; PLACES],
     pub head: usize,
     pub count: usize,
 }
@@ -37,7 +40,7 @@ pub fn empty() -> Queue
 {
     let blank = word::joined(word::scan_code(0), word::ascii_byte(0));
     Queue {
-        words: [blank; CAPACITY],
+        words: [blank; PLACES],
         head: 0,
         count: 0,
     }

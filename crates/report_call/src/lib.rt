@@ -6,7 +6,7 @@ use report::Reported;
 use state::Service;
 
 // The number of the refusal that an ans shows, 0 if it shows none.
-fn refusal(ans: u8) -> u8
+pub fn refusal(ans: u8) -> u8
     ensures { λ r. ⌜ r ≡ refusalIn ans ⌝ }
 {
     if ans < 0x80 {

@@ -11,8 +11,8 @@ pub mod status;
 
 // The order of the fields is that in which a copy is cheapest; it means nothing.
 pub struct Service {
-    pub port: Port,
     pub shared: Shared,
+    pub port: Port,
     pub line: Line,
     pub queue: Queue,
 }

@@ -25,20 +25,18 @@ use Rattle.xiquepazo.specs.declared.by_image.Recognised.the-variants as 
 use Rattle.xiquepazo.specs.declared.by_image.Changed.{Changed}
 use Rattle.xiquepazo.specs.declared.by_image.Refused.{Refused}
 use Rattle.image.specs.Image.{imageOf, serviceOf}
-use Rattle.xiquepazo.specs.Exports.{shownToC, stepIn, unknownIn, recognised, taggedIn, triedIn, reportedAs, writtenAs, makeTo}
-use Rattle.xiquepazo.specs.ExportLaws.{seen, seenFrom, Follows, ImagesFollow, TagsRecognised, Leaves, UnknownRefused}
+use Rattle.xiquepazo.specs.Exports.{seen, shownToC, stepIn, unknownIn, recognised, taggedIn, triedIn, reportedAs, writtenAs, makeTo}
+use Rattle.xiquepazo.specs.ExportLaws.{seenFrom, Follows, ImagesFollow, TagsRecognised, Leaves, UnknownRefused}
+use Rattle.xiquepazo.proofs.Events.{step-shows}
 use Rattle.events.proofs.RefusedCalls.{refused-step}
-use Rattle.image.proofs.ImageLaws.{comes-back}
+use Rattle.events.proofs.Ranges.{stays-in-range}
+use Rattle.image.proofs.ImageLaws.{reads-in-range, comes-back}
 
 step-follows : (image : Image) (event : Event) → serviceOf (stepIn image event .image) ≡ next (serviceOf image) event
 unfolding stepIn shownToC
 step-follows image event =
     by-test (λ (changed : Changed). serviceOf (changed .image) ≡ next (serviceOf image) event) _ _ _
-    (λ refused. sym (refused-step (serviceOf image) event refused)) (λ _. comes-back (next (serviceOf image) event))
-
-step-shows : (image : Image) (event : Event) → seen (stepIn image event .shown) ≡ seenOf (stepOf (serviceOf image) event)
-unfolding stepIn shownToC
-step-shows image event = by-test (λ (changed : Changed). seen (changed .shown) ≡ seenOf (stepOf (serviceOf image) event)) _ _ _ (λ _. refl) (λ _. refl)
+    (λ refused. sym (refused-step (serviceOf image) event refused)) (λ _. comes-back (next (serviceOf image) event) (stays-in-range .event (serviceOf image) event (reads-in-range image)))
 
 pub images-follow : ImagesFollow
 images-follow image [] = record { shown = refl; last = refl }

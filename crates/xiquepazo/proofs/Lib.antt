@@ -1,2 +1,4 @@
 pub mod ImageTypes
+pub mod Events
+pub mod Readings
 pub mod ExportLaws

@@ -8,29 +8,13 @@ use mathlib.Core.List.{List, [], _∷_}
 use lib.Dec.{ltb}
 use lib.ListN.{length}
 use Rattle.events.specs.declared.Event.{Event}
-use Rattle.events.specs.declared.Event.the-variants.{Key, Call, Poll, TimeOut, Empty, Restart}
 use Rattle.events.specs.Run.{Shown as Seen, run, after}
-use Rattle.events.specs.Tags.{tagOf}
 use Rattle.report.specs.Reported.{reportLength}
 use Rattle.image.specs.declared.Image.{Image}
-use Rattle.xiquepazo.specs.declared.by_image.Shown.{Shown}
 use Rattle.xiquepazo.specs.declared.by_image.Tagged.{Tagged}
 use Rattle.xiquepazo.specs.declared.by_image.Recognised.the-variants as recognised-as
 use Rattle.image.specs.Image.{serviceOf}
-use Rattle.xiquepazo.specs.Exports.{stepIn, recognised, eventTo, makeTo, reportTo, writtenTo}
-
--- what C is shown, as the theorems over lists have it
-abbrev pub seen : Shown → Seen
-seen shown =
-    record {
-      ans = shown .ans;
-      word = shown .word;
-      byte17 = shown .byte17;
-      byte18 = shown .byte18;
-      byte96 = shown .byte96;
-      byte97 = shown .byte97;
-      sent = shown .sent;
-    }
+use Rattle.xiquepazo.specs.Exports.{seen, written, stepIn, recognised, eventTo, makeTo, reportTo, writtenTo}
 
 -- a list of events on an image that C keeps
 abbrev pub seenFrom : Image → List Event → List Seen
@@ -49,15 +33,6 @@ pub record Follows (image : Image) (events : List Event) : Type 0 where
 
 abbrev pub ImagesFollow : Type 0
 ImagesFollow = (image : Image) (events : List Event) → Follows image events
-
--- an event by its tag and bytes; those that it does not use are 0 here, and any number will do
-abbrev pub written : Event → Tagged
-written (Key byte) = record { tag = tagOf (Key byte); a = byte; b = 0; c = 0 }
-written (Call function a b) = record { tag = tagOf (Call function a b); a = function; b = a; c = b }
-written Poll = record { tag = tagOf Poll; a = 0; b = 0; c = 0 }
-written TimeOut = record { tag = tagOf TimeOut; a = 0; b = 0; c = 0 }
-written Empty = record { tag = tagOf Empty; a = 0; b = 0; c = 0 }
-written Restart = record { tag = tagOf Restart; a = 0; b = 0; c = 0 }
 
 abbrev pub TagsRecognised : Type 0
 TagsRecognised = (event : Event) → recognised (written event) ≡ recognised-as.Event event

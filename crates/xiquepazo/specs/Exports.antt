@@ -2,6 +2,7 @@
 -- leaves the image as it was, number for number.
 -- Assumes nothing.
 use Prim.Native.Nat.{ℕ}
+use mathlib.Core.Bool.{Bool, true, false}
 use mathlib.Core.List.{List}
 use lib.Dec.{eqb, ltb}
 use Rattle.bits.specs.Choice.{if_then_else_}
@@ -13,7 +14,8 @@ use Rattle.events.specs.declared.Outcome.{Outcome}
 use Rattle.state.specs.State.{makeOf}
 use Rattle.state.specs.Flags.{byte17Of, byte18Of, byte96Of, byte97Of}
 use Rattle.answers.specs.Answers.{ansOf, wordOf}
-use Rattle.events.specs.Tags.{keyTag, callTag, pollTag, timeOutTag, emptyTag, restartTag}
+use Rattle.events.specs.Tags.{keyTag, callTag, pollTag, timeOutTag, emptyTag, restartTag, tagOf}
+use Rattle.events.specs.Run.{Shown as Seen}
 use Rattle.events.specs.Step.{stepOf}
 use Rattle.report.specs.Reported.{reportedOf, bufferOf}
 use Rattle.image.specs.declared.Image.{Image}
@@ -22,6 +24,7 @@ use Rattle.xiquepazo.specs.declared.by_image.Tagged.{Tagged}
 use Rattle.xiquepazo.specs.declared.by_image.FlagBytes.{FlagBytes}
 use Rattle.xiquepazo.specs.declared.by_image.Recognised.{Recognised}
 use Rattle.xiquepazo.specs.declared.by_image.Recognised.the-variants as recognised-as
+use Rattle.xiquepazo.specs.declared.by_image.Ran.{Ran}
 use Rattle.xiquepazo.specs.declared.by_image.Changed.{Changed}
 use Rattle.xiquepazo.specs.declared.by_image.Refused.{Refused}
 use Rattle.image.specs.Image.{imageOf, serviceOf}
@@ -37,6 +40,19 @@ shownWith service ans word sent =
       byte18 = byte18Of service;
       byte96 = byte96Of service;
       byte97 = byte97Of service;
+    }
+
+-- the same as the theorems over lists have it
+abbrev pub seen : Shown → Seen
+seen shown =
+    record {
+      ans = shown .ans;
+      word = shown .word;
+      byte17 = shown .byte17;
+      byte18 = shown .byte18;
+      byte96 = shown .byte96;
+      byte97 = shown .byte97;
+      sent = shown .sent;
     }
 
 unfoldable pub shownToC : Outcome → Shown
@@ -55,6 +71,15 @@ stepIn image event = changedBy image (stepOf (serviceOf image) event)
 unfoldable pub unknownIn : Image → Changed
 unknownIn image = let service = serviceOf image in record { image = image; shown = shownWith service 0x86 0 (sentOf (service .line)) }
 
+-- an event by its tag and bytes; those that it does not use are 0 here, and any number will do
+abbrev pub written : Event → Tagged
+written (Key byte) = record { tag = tagOf (Key byte); a = byte; b = 0; c = 0 }
+written (Call function a b) = record { tag = tagOf (Call function a b); a = function; b = a; c = b }
+written Poll = record { tag = tagOf Poll; a = 0; b = 0; c = 0 }
+written TimeOut = record { tag = tagOf TimeOut; a = 0; b = 0; c = 0 }
+written Empty = record { tag = tagOf Empty; a = 0; b = 0; c = 0 }
+written Restart = record { tag = tagOf Restart; a = 0; b = 0; c = 0 }
+
 -- the events by the capitals that a pack has for them
 unfoldable pub recognised : Tagged → Recognised
 recognised tagged =
@@ -66,18 +91,22 @@ recognised tagged =
     else if eqb (tagged .tag) restartTag then recognised-as.Event Restart
     else recognised-as.Unknown
 
+abbrev pub isUnknown : Recognised → Bool
+isUnknown recognised-as.Unknown = true
+isUnknown (recognised-as.Event event) = false
+
+-- an event as it ran, before what is seen of it; an unknown tag ran nothing
+unfoldable pub toldOf : Outcome → Ran
+toldOf outcome =
+    record { service = outcome .service; ans = ansOf (outcome .answer); word = wordOf (outcome .answer); sent = outcome .sent }
+
+abbrev pub ranOf : Service → Recognised → Ran
+ranOf service recognised-as.Unknown = record { service = service; ans = 0x86; word = 0; sent = sentOf (service .line) }
+ranOf service (recognised-as.Event event) = toldOf (stepOf service event)
+
 abbrev pub taggedIn : Image → Recognised → Changed
 taggedIn image recognised-as.Unknown = unknownIn image
 taggedIn image (recognised-as.Event event) = stepIn image event
-
-abbrev pub keyTo : Image → ℕ → Changed
-keyTo image byte = stepIn image (Key byte)
-
-abbrev pub callTo : Image → ℕ → ℕ → ℕ → Changed
-callTo image function a b = stepIn image (Call function a b)
-
-abbrev pub pollTo : Image → Changed
-pollTo image = stepIn image Poll
 
 abbrev pub eventTo : Image → Tagged → Changed
 eventTo image tagged = taggedIn image (recognised tagged)

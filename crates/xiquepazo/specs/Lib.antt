@@ -1,2 +1,4 @@
 pub mod Exports
+pub mod Reads
+pub mod ReadLaws
 pub mod ExportLaws

@@ -1,10 +1,12 @@
 // What each exported call does, by value: the image that it leaves and what it returns. A refused call leaves every number of the image.
 ghost use mathlib.Core.Path.{_≡_};
-ghost use Rattle.xiquepazo.specs.Exports.{shownWith, shownToC, stepIn, unknownIn, recognised, triedIn, keyTo, callTo, pollTo, eventTo, makeTo, reportIn, writtenIn, reportTo, writtenTo, flagsTo};
+ghost use Rattle.report.specs.Report.{reportFrom};
+ghost use Rattle.xiquepazo.specs.Exports.{shownWith, seen, toldOf, ranOf, recognised, isUnknown, eventTo, makeTo, reportTo, writtenTo, flagsTo};
 use events::Event;
 use events::Outcome;
 use events::tags;
 use image::Image;
+use report::Report;
 use state::Service;
 use state::flags;
 
@@ -42,6 +44,14 @@ pub enum Recognised {
     Event(Event),
 }
 
+// A service after an event, and what it answered.
+pub struct Ran {
+    pub service: Service,
+    pub ans: u8,
+    pub word: u16,
+    pub sent: u8,
+}
+
 pub struct Changed {
     pub image: Image,
     pub shown: Shown,
@@ -66,45 +76,6 @@ fn shown_with(service: Service, ans: u8, word: u16, sent: u8) -> Shown
     }
 }
 
-fn shown_of(outcome: Outcome) -> Shown
-    ensures { λ r. ⌜ r ≡ shownToC outcome ⌝ }
-{
-    let service = outcome.service;
-    let answer = outcome.answer;
-    shown_with(
-        service,
-        answers::number(answer),
-        answers::word(answer),
-        outcome.sent,
-    )
-}
-
-// An event that is run.
-fn stepped(image: Image, event: Event) -> Changed
-    ensures { λ r. ⌜ r ≡ stepIn image event ⌝ }
-{
-    let outcome = service::step(image::service_of(image), event);
-    let shown = shown_of(outcome);
-    if 0x7F < shown.ans {
-        return Changed { image, shown };
-    }
-    let after = outcome.service;
-    Changed {
-        image: image::image_of(after),
-        shown,
-    }
-}
-
-// A tag that names no event: refusal 6, and nothing is run.
-fn unknown(image: Image) -> Changed
-    ensures { λ r. ⌜ r ≡ unknownIn image ⌝ }
-{
-    let service = image::service_of(image);
-    let line = service.line;
-    let shown = shown_with(service, 0x86, 0, line::sent(line));
-    Changed { image, shown }
-}
-
 fn recognise(tagged: Tagged) -> Recognised
     ensures { λ r. ⌜ r ≡ recognised tagged ⌝ }
 {
@@ -120,39 +91,72 @@ fn recognise(tagged: Tagged) -> Recognised
     }
 }
 
-pub fn key(image: Image, byte: u8) -> Changed
-    ensures { λ r. ⌜ r ≡ keyTo image byte ⌝ }
+fn told(outcome: Outcome) -> Ran
+    ensures { λ r. ⌜ r ≡ toldOf outcome ⌝ }
 {
-    stepped(image, Event::Key(byte))
-}
-
-pub fn call(image: Image, function: u8, a: u8, b: u8) -> Changed
-    ensures { λ r. ⌜ r ≡ callTo image function a b ⌝ }
-{
-    stepped(image, Event::Call(function, a, b))
-}
-
-pub fn poll(image: Image) -> Changed
-    ensures { λ r. ⌜ r ≡ pollTo image ⌝ }
-{
-    stepped(image, Event::Poll)
-}
-
-pub fn event(image: Image, tagged: Tagged) -> Changed
-    ensures { λ r. ⌜ r ≡ eventTo image tagged ⌝ }
-{
-    let event = recognise(tagged);
-    match event {
-        Recognised::Unknown => unknown(image),
-        Recognised::Event(event) => stepped(image, event),
+    let service = outcome.service;
+    let answer = outcome.answer;
+    Ran {
+        service,
+        ans: answers::number(answer),
+        word: answers::word(answer),
+        sent: outcome.sent,
     }
 }
 
-// The image of what a call left, or the image as it was.
-fn tried(image: Image, refusal: u8, after: Service) -> Refused
-    ensures { λ r. ⌜ r ≡ triedIn image refusal after ⌝ }
+// A tag that names no event is refused by 6: nothing runs, and the count is the one that stands.
+fn run(service: Service, event: Recognised) -> Ran
+    ensures { λ r. ⌜ r ≡ ranOf service event ⌝ }
 {
+    match event {
+        Recognised::Unknown => {
+            let line = service.line;
+            Ran {
+                service,
+                ans: 0x86,
+                word: 0,
+                sent: line::sent(line),
+            }
+        }
+        Recognised::Event(event) => told(service::step(service, event)),
+    }
+}
+
+// All other calls that look at a service go through this one. So its parts are called from one place each, where the compiler puts their code:
+// a service that is passed on in memory costs more than all that an event does.
+pub fn event(image: Image, tagged: Tagged) -> Changed
+    ensures { λ r. ⌜ r ≡ eventTo image tagged ⌝ }
+{
+    let service = image::service_of(image);
+    let event = recognise(tagged);
+    let ran = run(service, event);
+    let after = ran.service;
+    let shown = shown_with(after, ran.ans, ran.word, ran.sent);
+    if 0x7F < shown.ans {
+        return Changed { image, shown };
+    }
+    Changed {
+        image: image::image_of(after),
+        shown,
+    }
+}
+
+// The event as C runs it, on a copy.
+fn event_on_copy(image: Image, tagged: Tagged) -> Changed
+    ensures { λ r. ⌜ r ≡ eventTo image tagged ⌝ }
+{
+    let mut copy = image;
+    let shown = crate::xiquepazo_event(&mut copy, tagged);
+    Changed { image: copy, shown }
+}
+
+pub fn make(image: Image, bits: u8) -> Refused
+    ensures { λ r. ⌜ r ≡ makeTo image bits ⌝ }
+{
+    let made = service::make(bits);
+    let refusal = made.refusal;
     if refusal == 0 {
+        let after = made.service;
         return Refused {
             image: image::image_of(after),
             refusal: 0,
@@ -161,41 +165,66 @@ fn tried(image: Image, refusal: u8, after: Service) -> Refused
     Refused { image, refusal }
 }
 
-pub fn make(image: Image, bits: u8) -> Refused
-    ensures { λ r. ⌜ r ≡ makeTo image bits ⌝ }
+fn is_unknown(tagged: Tagged) -> bool
+    ensures { λ r. ⌜ r ≡ isUnknown (recognised tagged) ⌝ }
 {
-    let made = service::make(bits);
-    let after = made.service;
-    tried(image, made.refusal, after)
+    let event = recognise(tagged);
+    match event {
+        Recognised::Unknown => true,
+        Recognised::Event(_) => false,
+    }
 }
 
-// An event that is run and reported.
-fn reported(image: Image, event: Event, buffer: &mut [u8]) -> Refused
-    ensures { λ r. ⌜ (r ≡ reportIn image event (now (buffer .entry))) × (now (buffer .exit) ≡ writtenIn image event (now (buffer .entry))) ⌝ }
+fn report_of(tag: u8, shown: Shown) -> Report
+    ensures { λ r. ⌜ r ≡ reportFrom tag (seen shown) ⌝ }
 {
-    let told = report_call::report_event(image::service_of(image), event, buffer);
-    let after = told.service;
-    tried(image, told.refusal, after)
+    Report {
+        tag,
+        ans: shown.ans,
+        word: shown.word,
+        byte17: shown.byte17,
+        byte18: shown.byte18,
+        byte96: shown.byte96,
+        byte97: shown.byte97,
+        sent: shown.sent,
+    }
 }
 
 pub fn report(image: Image, tagged: Tagged, buffer: &mut [u8]) -> Refused
     ensures { λ r. ⌜ (r ≡ reportTo image tagged (now (buffer .entry))) × (now (buffer .exit) ≡ writtenTo image tagged (now (buffer .entry))) ⌝ }
 {
-    let event = recognise(tagged);
-    match event {
-        Recognised::Unknown => Refused { image, refusal: 6 },
-        Recognised::Event(event) => reported(image, event, buffer),
+    if is_unknown(tagged) {
+        return Refused { image, refusal: 6 };
+    }
+    if buffer.len() < report::LENGTH {
+        return Refused { image, refusal: 9 };
+    }
+    let changed = event_on_copy(image, tagged);
+    let shown = changed.shown;
+    let after = changed.image;
+    report_text::write(report_of(tagged.tag, shown), buffer);
+    Refused {
+        image: after,
+        refusal: report_call::refusal(shown.ans),
     }
 }
 
+// An unknown tag shows the flag bytes as they stand.
 pub fn flag_bytes(image: Image) -> FlagBytes
     ensures { λ r. ⌜ r ≡ flagsTo image ⌝ }
 {
-    let service = image::service_of(image);
+    let unknown = Tagged {
+        tag: 0,
+        a: 0,
+        b: 0,
+        c: 0,
+    };
+    let changed = event_on_copy(image, unknown);
+    let shown = changed.shown;
     FlagBytes {
-        byte17: flags::byte17(service),
-        byte18: flags::byte18(service),
-        byte96: flags::byte96(service),
-        byte97: flags::byte97(service),
+        byte17: shown.byte17,
+        byte18: shown.byte18,
+        byte96: shown.byte96,
+        byte97: shown.byte97,
     }
 }

@@ -1,12 +1,15 @@
 // The calls for C and Rust: thin calls over the calls by value, on an image that the caller lends.
 ghost use mathlib.Core.Path.{_≡_};
-ghost use Rattle.xiquepazo.specs.Exports.{keyTo, callTo, pollTo, eventTo, makeTo, reportTo, writtenTo, flagsTo};
+ghost use Rattle.xiquepazo.specs.Reads.{readTo};
+ghost use Rattle.xiquepazo.specs.Exports.{eventTo, makeTo, reportTo, writtenTo, flagsTo};
 use crate::by_image::FlagBytes;
 use crate::by_image::Shown;
 use crate::by_image::Tagged;
+use crate::by_pack::Reading;
 use image::Image;
 
 pub mod by_image;
+pub mod by_pack;
 
 // A service newly made with four lock bits, or refusal 1.
 #[no_mangle]
@@ -17,39 +20,6 @@ pub extern "C" fn xiquepazo_make(image: &mut Image, bits: u8) -> u8
     let refused = by_image::make(*image, bits);
     *image = refused.image;
     refused.refusal
-}
-
-// A byte from the keyboard.
-#[no_mangle]
-pub extern "C" fn xiquepazo_key(image: &mut Image, byte: u8) -> Shown
-    ensures { λ r. ⌜ (now (image .exit) ≡ keyTo (now (image .entry)) byte .image)
-        × (r ≡ keyTo (now (image .entry)) byte .shown) ⌝ }
-{
-    let changed = by_image::key(*image, byte);
-    *image = changed.image;
-    changed.shown
-}
-
-// An int 16h call.
-#[no_mangle]
-pub extern "C" fn xiquepazo_call(image: &mut Image, function: u8, a: u8, b: u8) -> Shown
-    ensures { λ r. ⌜ (now (image .exit) ≡ callTo (now (image .entry)) function a b .image)
-        × (r ≡ callTo (now (image .entry)) function a b .shown) ⌝ }
-{
-    let changed = by_image::call(*image, function, a, b);
-    *image = changed.image;
-    changed.shown
-}
-
-// A poll for a byte to send.
-#[no_mangle]
-pub extern "C" fn xiquepazo_poll(image: &mut Image) -> Shown
-    ensures { λ r. ⌜ (now (image .exit) ≡ pollTo (now (image .entry)) .image)
-        × (r ≡ pollTo (now (image .entry)) .shown) ⌝ }
-{
-    let changed = by_image::poll(*image);
-    *image = changed.image;
-    changed.shown
 }
 
 // Any event, by its capital; or refusal 6.
@@ -81,4 +51,12 @@ pub extern "C" fn xiquepazo_flags(image: &Image) -> FlagBytes
     ensures { λ r. ⌜ r ≡ flagsTo (now (image .entry)) ⌝ }
 {
     by_image::flag_bytes(*image)
+}
+
+// The event at a start in a pack, where the next begins, and refusal 6, 7, 8 or 10.
+#[no_mangle]
+pub extern "C" fn xiquepazo_read(pack: &[u8], start: usize) -> Reading
+    ensures { λ r. ⌜ r ≡ readTo (now (pack .entry)) start ⌝ }
+{
+    by_pack::read_at(pack, start)
 }

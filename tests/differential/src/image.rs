@@ -5,6 +5,47 @@ use reference::{Event, Outcome};
 /// Bytes of a service as the library keeps it.
 pub const IMAGE_LENGTH: usize = 80;
 
+/// Where each number of a service stands in those bytes, as the header says.
+pub mod place {
+    pub const PAUSED: usize = 0;
+    pub const SCROLL_LOCK: usize = 1;
+    pub const NUM_LOCK: usize = 2;
+    pub const CAPS_LOCK: usize = 3;
+    pub const INSERT: usize = 4;
+    pub const SCROLL_HELD: usize = 5;
+    pub const NUM_HELD: usize = 6;
+    pub const CAPS_HELD: usize = 7;
+    pub const INSERT_HELD: usize = 8;
+    pub const SYSREQ_HELD: usize = 9;
+    pub const LEFT_SHIFT: usize = 10;
+    pub const RIGHT_SHIFT: usize = 11;
+    pub const LEFT_CTRL: usize = 12;
+    pub const RIGHT_CTRL: usize = 13;
+    pub const LEFT_ALT: usize = 14;
+    pub const RIGHT_ALT: usize = 15;
+    pub const PREFIX: usize = 16;
+    pub const ALT_SUM: usize = 17;
+    pub const RATE_KNOWN: usize = 18;
+    pub const RATE: usize = 19;
+    pub const HANDLED_KNOWN: usize = 20;
+    pub const HANDLED: usize = 21;
+    pub const PHASE: usize = 22;
+    pub const KIND: usize = 23;
+    pub const VALUE: usize = 24;
+    pub const OPERAND: usize = 25;
+    pub const SENDS: usize = 26;
+    pub const SENT: usize = 27;
+    pub const ACKNOWLEDGED: usize = 28;
+    pub const ABANDONED: usize = 29;
+    pub const DONE: usize = 30;
+    pub const RESEND: usize = 31;
+    /// Sixteen words of a scan code and an ASCII byte.
+    pub const WORDS: usize = 32;
+    /// Eight bytes each, the lowest first.
+    pub const HEAD: usize = 64;
+    pub const COUNT: usize = 72;
+}
+
 /// A service in memory that the caller lends. The library gives each of its bytes a meaning,
 /// so any bytes may be lent.
 #[repr(C, align(8))]
@@ -36,9 +77,6 @@ struct FlagBytes {
 
 extern "C" {
     fn xiquepazo_make(image: &mut Image, bits: u8) -> u8;
-    fn xiquepazo_key(image: &mut Image, byte: u8) -> Shown;
-    fn xiquepazo_call(image: &mut Image, function: u8, a: u8, b: u8) -> Shown;
-    fn xiquepazo_poll(image: &mut Image) -> Shown;
     fn xiquepazo_event(image: &mut Image, event: Tagged) -> Shown;
     fn xiquepazo_report(image: &mut Image, event: Tagged, buffer: *mut u8, length: usize) -> u8;
     fn xiquepazo_flags(image: &Image) -> FlagBytes;
@@ -63,15 +101,11 @@ impl Image {
     }
 
     pub fn key(&mut self, byte: u8) -> Outcome {
-        unsafe { xiquepazo_key(self, byte) }.into()
+        self.event(&Event::Key(byte))
     }
 
     pub fn call(&mut self, function: u8, a: u8, b: u8) -> Outcome {
-        unsafe { xiquepazo_call(self, function, a, b) }.into()
-    }
-
-    pub fn poll(&mut self) -> Outcome {
-        unsafe { xiquepazo_poll(self) }.into()
+        self.event(&Event::Call(function, a, b))
     }
 
     pub fn event(&mut self, event: impl Into<Tagged>) -> Outcome {

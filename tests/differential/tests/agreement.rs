@@ -1,6 +1,6 @@
 //! Every event through the library shows what the reference shows: answer, word, flag bytes, bytes
-//! sent, refusal and the 44 bytes of its report. It does so by each call that runs such an event,
-//! and each leaves the same image.
+//! sent, refusal and the 44 bytes of its report. Run alone or with its report, it leaves the same
+//! image.
 //!
 //! The lists are random, of every flavour and from every setting of the locks, and then those of
 //! the reference's generator, which try each rule. Where the two sides differ, the list is cut down
@@ -46,13 +46,10 @@ fn seen_of_reference(service: &mut Service, event: &Event) -> Seen {
     }
 }
 
-/// Runs the event by each call that can, from the same image, and holds the calls to each other.
+/// Runs the event by both calls that can, from the same image, and holds them to each other.
 fn seen_of_library(image: &mut Image, event: &Event) -> Result<Seen, String> {
-    let (mut reported, mut direct) = (image.clone(), image.clone());
+    let mut reported = image.clone();
     let outcome = image.event(event);
-    if by_its_own_call(&mut direct, event).is_some_and(|own| own != outcome || direct != *image) {
-        return Err("its own call does not do what `event` does".to_string());
-    }
     let mut report = [0; REPORT_LENGTH];
     let refusal = reported.report(event, &mut report);
     if reported != *image {
@@ -64,16 +61,6 @@ fn seen_of_library(image: &mut Image, event: &Event) -> Result<Seen, String> {
         refusal,
         report,
     })
-}
-
-/// The call made for one kind of event, if it has one.
-fn by_its_own_call(image: &mut Image, event: &Event) -> Option<Outcome> {
-    match *event {
-        Event::Key(byte) => Some(image.key(byte)),
-        Event::Call(function, a, b) => Some(image.call(function, a, b)),
-        Event::Poll => Some(image.poll()),
-        Event::TimeOut | Event::Empty | Event::Restart => None,
-    }
 }
 
 /// The place of the first event on which the two sides differ, and how.

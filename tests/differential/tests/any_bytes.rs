@@ -1,17 +1,32 @@
 //! Any 80 bytes are a service: no image makes a call fail, or answer otherwise a second time. What a
-//! call leaves is in the one form that the library writes, and shows the same as what was lent.
+//! call leaves is in the one form that the library writes, with every number in its range, and shows
+//! the same as what was lent.
 
-use differential::{Image, IMAGE_LENGTH};
+use differential::{place, Image, IMAGE_LENGTH};
 use reference::generator::{random_events, Random, FLAVOURS};
 use reference::{report, Event, REPORT_LENGTH};
-use std::ops::Range;
 
 const IMAGES: usize = 200_000;
 const EVENTS: usize = 10;
 
-/// Places that hold 0 or 1 in what a call leaves: keys and held locks, locks and pause, kind and
-/// operand of the command, known handled value and rate, and the marks but for the value done.
-const FLAGS: [Range<usize>; 7] = [49..60, 61..66, 67..68, 69..70, 72..73, 74..75, 77..80];
+/// The most that a number of one byte can be in what a call leaves; 1 for a flag. A command's value
+/// is looked at by its kind, and words and the Alt sum may be anything.
+const MOST: [(usize, u8); 14] = [
+    (place::PREFIX, 4),
+    (place::RATE_KNOWN, 1),
+    (place::RATE, 127),
+    (place::HANDLED_KNOWN, 1),
+    (place::HANDLED, 7),
+    (place::PHASE, 2),
+    (place::KIND, 1),
+    (place::OPERAND, 1),
+    (place::SENDS, 3),
+    (place::SENT, 6),
+    (place::ACKNOWLEDGED, 1),
+    (place::ABANDONED, 1),
+    (place::DONE, 7),
+    (place::RESEND, 1),
+];
 
 fn any_image(random: &mut Random) -> Image {
     let mut image = Image::new(random.below(16) as u8).unwrap();
@@ -43,15 +58,26 @@ fn in_form(mut image: Image) -> Image {
     image
 }
 
-fn is_in_form(image: &Image) -> bool {
-    let flags = FLAGS.into_iter().flatten();
-    flags.clone().all(|place| image.bytes[place] <= 1) && in_form(image.clone()) == *image
+fn in_range(image: &Image) -> bool {
+    let number = |start: usize| {
+        let bytes = image.bytes[start..start + 8].try_into().unwrap();
+        u64::from_le_bytes(bytes)
+    };
+    let most_value = [7, 127][usize::from(image.bytes[place::KIND])];
+    image.bytes[..place::PREFIX].iter().all(|&flag| flag <= 1)
+        && MOST.iter().all(|&(place, most)| image.bytes[place] <= most)
+        && image.bytes[place::VALUE] <= most_value
+        && number(place::HEAD) <= 14
+        && number(place::COUNT) <= 15
 }
 
 fn check_event(image: &mut Image, event: &Event) {
     let before = image.clone();
     let (mut again, mut formed, mut reported) =
         (before.clone(), in_form(before.clone()), before.clone());
+    // Read twice, it is what it was read as once.
+    assert!(in_range(&formed));
+    assert_eq!(in_form(formed.clone()), formed);
     assert_eq!(before.flag_bytes(), formed.flag_bytes());
 
     let outcome = image.event(event);
@@ -60,7 +86,7 @@ fn check_event(image: &mut Image, event: &Event) {
     assert_eq!(image.flag_bytes(), outcome.flags);
     assert_eq!(formed.event(event), outcome);
     if outcome.ans < 0x80 {
-        assert!(is_in_form(image));
+        assert!(in_range(image));
         assert_eq!(formed, *image);
     } else {
         assert_eq!(before, *image);
@@ -72,10 +98,8 @@ fn check_event(image: &mut Image, event: &Event) {
         outcome.ans.saturating_sub(0x80)
     );
     assert_eq!(reported, *image);
-    // No line counts beyond 6, so a count of two digits has no text to compare with.
-    if outcome.sent < 10 {
-        assert_eq!(text, report(event, &outcome));
-    }
+    assert!(outcome.sent <= 6);
+    assert_eq!(text, report(event, &outcome));
 }
 
 #[test]

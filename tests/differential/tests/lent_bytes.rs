@@ -74,14 +74,13 @@ fn assert_reported(pair: &Pair, event: &Event, length: usize, refusal: u8) {
     assert!(refusal == 0 || *image == pair.image, "{event:?}");
 }
 
-/// A call refused by 2 to 5, by each function that runs it.
+/// A call refused by 2 to 5, alone and with its report.
 fn assert_call_refused(pair: &Pair, (function, a, b): (u8, u8, u8), refusal: u8) {
     let event = Event::Call(function, a, b);
     let expected = pair.service.clone().event(&event);
     assert_eq!((expected.ans, expected.word), (0x80 + refusal, 0));
     let mut image = pair.image.clone();
     assert_eq!(image.event(&event), expected);
-    assert_eq!(image.call(function, a, b), expected);
     assert_eq!(image, pair.image);
     assert_reported(pair, &event, REPORT_LENGTH, refusal);
     assert_reported(pair, &event, REPORT_LENGTH + 13, refusal);
@@ -234,9 +233,6 @@ fn neighbours_of_the_image_are_kept() {
         for event in random_events(&mut random, flavour, 200) {
             amid.image.event(&event);
             amid.image.report(&event, &mut [0; REPORT_LENGTH]);
-            amid.image.key(random.byte());
-            amid.image.call(random.byte(), 0, 0);
-            amid.image.poll();
             amid.image.make(random.byte());
         }
         assert_eq!((amid.before, amid.after), (margin, margin));

@@ -2,7 +2,8 @@
 //! from one newly made with the locks that stand. Its image is that of the new one byte for byte,
 //! and on a random further list both show the same, event by event.
 //!
-//! Calls that are turned away by refusal 9 stand between the events of the first lists.
+//! Calls that are turned away by refusal 9 stand before any event: of the first lists, of the all-up
+//! run, before and after its E and R, and of the further lists of either service.
 
 use differential::Image;
 use reference::generator::{random_events, Random, ALL_UP_RUN, FLAVOURS};
@@ -12,23 +13,28 @@ const FIRST_LISTS: usize = 32_000;
 const LONGEST_FIRST: usize = 200;
 const FURTHER_EVENTS: usize = 60;
 
-fn resynchronise(image: &mut Image) {
-    for byte in ALL_UP_RUN {
-        image.key(byte);
+/// Now and then asks for a report in too few bytes.
+fn turned_away(image: &mut Image, random: &mut Random, event: &Event) {
+    if random.below(8) == 0 {
+        let mut buffer = vec![0x5A; random.below(REPORT_LENGTH)];
+        assert_eq!(image.report(event, &mut buffer), 9);
+        assert!(buffer.iter().all(|&byte| byte == 0x5A));
     }
-    image.event(&Event::Empty);
-    image.event(&Event::Restart);
 }
 
-/// Runs a list, with a report turned away now and then.
-fn run_first_list(image: &mut Image, random: &mut Random, events: &[Event]) {
+/// Runs a list, with reports turned away before its events and after them.
+fn run(image: &mut Image, random: &mut Random, events: &[Event]) {
     for event in events {
-        if random.below(8) == 0 {
-            let length = random.below(REPORT_LENGTH);
-            assert_eq!(image.report(event, &mut vec![0; length]), 9);
-        }
+        turned_away(image, random, event);
         image.event(event);
     }
+    turned_away(image, random, &Event::Poll);
+}
+
+/// The all-up run, E and R.
+fn resynchronising() -> Vec<Event> {
+    let run = ALL_UP_RUN.into_iter().map(Event::Key);
+    run.chain([Event::Empty, Event::Restart]).collect()
 }
 
 /// A service newly made with the locks that stand in this one.
@@ -43,8 +49,10 @@ fn seen(image: &mut Image, event: &Event) -> (Outcome, u8, [u8; REPORT_LENGTH]) 
     (image.event(event), refusal, report)
 }
 
-fn assert_same_from_now_on(mut used: Image, mut new: Image, events: &[Event]) {
+fn assert_same_from_now_on(mut used: Image, mut new: Image, random: &mut Random, events: &[Event]) {
     for (place, event) in events.iter().enumerate() {
+        turned_away(&mut used, random, event);
+        turned_away(&mut new, random, event);
         let (of_used, of_new) = (seen(&mut used, event), seen(&mut new, event));
         assert_eq!(of_used, of_new, "{:?}", &events[..=place]);
         assert_eq!(used.flag_bytes(), new.flag_bytes());
@@ -61,14 +69,14 @@ fn any_first_list_is_forgotten() {
         let mut used = Image::new((list / FLAVOURS.len() % 16) as u8).unwrap();
         let length = random.below(LONGEST_FIRST + 1);
         let first = random_events(&mut random, flavour, length);
-        run_first_list(&mut used, &mut random, &first);
+        run(&mut used, &mut random, &first);
         marked += usize::from(used != new_like(&used));
 
-        resynchronise(&mut used);
+        run(&mut used, &mut random, &resynchronising());
         let new = new_like(&used);
         assert_eq!(used, new, "after {first:?}");
         let further = random_events(&mut random, flavour, FURTHER_EVENTS);
-        assert_same_from_now_on(used, new, &further);
+        assert_same_from_now_on(used, new, &mut random, &further);
     }
     println!("{FIRST_LISTS} first lists are forgotten; {marked} of them had left a mark");
     assert!(marked > FIRST_LISTS / 2, "there was something to forget");

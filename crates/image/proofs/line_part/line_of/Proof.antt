@@ -16,8 +16,7 @@ setting-of-requires-2 c κs = search needs
 
 returns : tie.Need-returns
 unfolding lineAt
-returns c = simp (← (c .before .before .before .setting-of2 .ensures), ← (c .before .before .before .before .setting-of .ensures), ← (c .before .before .before .before .before .phase-of .ensures))
+returns c = simp (← (c .before .before .before .before .setting-of2 .ensures), ← (c .before .before .before .before .before .before .setting-of .ensures), ← (c .before .before .before .before .before .before .before .before .phase-of .ensures))
 
 pub line-of-spec : {M : Type 1} → statement M
-line-of-spec =
-    tie.close (tie.spec phase-of-requires setting-of-requires setting-of-requires-2 returns)
+line-of-spec = tie.close (tie.spec phase-of-requires setting-of-requires setting-of-requires-2 returns)

@@ -10,10 +10,10 @@ use Rattle.image.proofs.queue_part.word_images.Statement.{statement}
 use Rattle.image.proofs.queue_part.word_images.Tie as tie
 
 abbrev Inv-loop : tie.InvT-loop
-Inv-loop words images₀ place₀ images place = (place ≤ 15) × (images ≡ mixed wordImage place words images₀)
+Inv-loop words images₀ place₀ images place = (place ≤ 16) × (images ≡ mixed wordImage place words images₀)
 
 abbrev μ-loop : tie.MeasureT-loop
-μ-loop words images₀ place₀ images place = 15 - place
+μ-loop words images₀ place₀ images place = 16 - place
 
 loop-holds : tie.Need-loop-holds Inv-loop μ-loop
 loop-holds c = (omega arith, refl)
@@ -47,7 +47,7 @@ loop-again c =
 returns : tie.Need-returns Inv-loop μ-loop
 returns c =
     let run = c .before .loop in
-    run .inv .1 ∙ mixed-end wordImage 15 (run .place) _ _ (omega arith) (search needs) refl
+    run .inv .1 ∙ mixed-end wordImage 16 (run .place) _ _ (omega arith) (search needs) refl
 
 pub word-images-spec : {M : Type 1} → statement M
 word-images-spec =

@@ -10,10 +10,10 @@ use Rattle.image.proofs.queue_part.words_of.Statement.{statement}
 use Rattle.image.proofs.queue_part.words_of.Tie as tie
 
 abbrev Inv-loop : tie.InvT-loop
-Inv-loop images words₀ place₀ words place = (place ≤ 15) × (words ≡ mixed wordAtImage place images words₀)
+Inv-loop images words₀ place₀ words place = (place ≤ 16) × (words ≡ mixed wordAtImage place images words₀)
 
 abbrev μ-loop : tie.MeasureT-loop
-μ-loop images words₀ place₀ words place = 15 - place
+μ-loop images words₀ place₀ words place = 16 - place
 
 word-of-requires : tie.Need-word-of-requires Inv-loop μ-loop
 word-of-requires c κs = search needs
@@ -50,7 +50,7 @@ loop-again c =
 returns : tie.Need-returns Inv-loop μ-loop
 returns c =
     let run = c .before .loop in
-    run .inv .1 ∙ mixed-end wordAtImage 15 (run .place) _ _ (omega arith) (search needs) refl
+    run .inv .1 ∙ mixed-end wordAtImage 16 (run .place) _ _ (omega arith) (search needs) refl
 
 pub words-of-spec : {M : Type 1} → statement M
 words-of-spec =

@@ -1,44 +1,51 @@
 -- The proof of `xiquepazo::by_image::report`.
 -- Assumes nothing.
+use mathlib.Core.Path.{sym, _∙_}
+use native.Mathlib.Omega.{arith}
+use Rattle.xiquepazo.specs.Exports.{recognised}
+use Rattle.xiquepazo.proofs.Events.{named, unknown-report, short-report, long-report}
 use borrow.Author.Needs.{needs}
 use Rattle.xiquepazo.proofs.by_image.report.Statement.{statement}
 use Rattle.xiquepazo.proofs.by_image.report.Tie as tie
 
-recognise-requires : tie.Need-recognise-requires
-recognise-requires c κs = search needs
+is-unknown-requires : tie.Need-is-unknown-requires
+is-unknown-requires c κs = search needs
 
-enum-told : tie.Need-enum-told
-enum-told c = search needs
+event-on-copy-requires : tie.Need-event-on-copy-requires
+event-on-copy-requires c κs = search needs
 
-enum-known-event : tie.Need-enum-known-event
-enum-known-event c = search needs
+report-of-requires : tie.Need-report-of-requires
+report-of-requires c κs = search needs
 
-reported-requires : tie.Need-reported-requires
-reported-requires c κs = search needs
+write-requires : tie.Need-write-requires
+write-requires c κs = search needs
 
-returns : tie.Need-returns
-returns c =
-    let named = c .before .before .recognise .ensures in
-    (simp (← named, c .enum-told .given .1), simp (← named, c .enum-told .given .1))
+refusal-requires : tie.Need-refusal-requires
+refusal-requires c κs = search needs
 
 same-length : tie.Need-same-length
 same-length c = search needs
 
+returns : tie.Need-returns
+returns c =
+    let a = c .before .before .before .args in
+    let made = unknown-report (a .image) (a .tagged) (a .buffer .now) (recognised (a .tagged)) (sym (c .before .is-unknown .ensures) ∙ c .if1 .taken) in
+    (made .result, made .writes)
+
 returns-2 : tie.Need-returns-2
 returns-2 c =
-    let named = c .before .before .before .before .before .before .before .recognise .ensures in
-    let event = c .before .before .before .before .before .event .given .1 in
-    let told = c .before .before .reported .ensures in
-    (simp (← named, event) (told .0), simp (← named, event) (told .1))
+    let a = c .before .before .before .before .args in
+    let made = short-report (a .image) (a .tagged) (a .buffer .now) (recognised (a .tagged)) (sym (c .before .before .is-unknown .ensures) ∙ c .before .if1 .left) (omega arith) in
+    (made .result, made .writes)
+
+returns-3 : tie.Need-returns-3
+returns-3 c =
+    let a = c .before .before .before .before .before .before .before .before .before .before .before .before .before .args in
+    let copied = c .before .before .before .before .before .before .before .before .event-on-copy .ensures in
+    let made = long-report (a .image) (a .tagged) (a .buffer .now) (recognised (a .tagged)) (sym (c .before .before .before .before .before .before .before .before .before .before .before .is-unknown .ensures) ∙ c .before .before .before .before .before .before .before .before .before .before .if1 .left) (named (a .tagged)) (omega (arith, c .before .before .before .before .before .before .before .before .before .if2 .left)) in
+    (rw (c .refusal .ensures, copied) (made .result), rw (c .before .before .before .write .ensures, c .before .before .before .before .before .report-of .ensures, copied) (made .writes))
 
 pub report-spec : {M : Type 1} → statement M
 report-spec =
     tie.close
-    (tie.spec
-    recognise-requires
-    enum-told
-    enum-known-event
-    reported-requires
-    returns
-    same-length
-    returns-2)
+    (tie.spec is-unknown-requires returns returns-2 event-on-copy-requires report-of-requires write-requires refusal-requires same-length returns-3)

@@ -1,0 +1,131 @@
+-- Every event keeps a service in range, since the queue's calls and the line's inputs do.
+-- Assumes nothing.
+use Prim.Native.Nat.{ℕ, _+_, _*_, _<_, _≤_}
+use native.Mathlib.Omega.{arith}
+use mathlib.Core.Bool.{Bool, true, false}
+use lib.Dec.{ltb, lit≤}
+use borrow.Author.Tests.{ltb-false}
+use Rattle.bits.specs.Bits.{byteOf, weightOf}
+use Rattle.bits.proofs.Choice.{by-test, either}
+use Rattle.word.specs.declared.Word.{Word}
+use Rattle.word.specs.Word.{wordAt}
+use Rattle.port.specs.declared.Effect.{Effect}
+use Rattle.port.specs.declared.Effect.the-variants as effect
+use Rattle.port.specs.KeyByte.{keyByteOf}
+use Rattle.queue.specs.Queue as queue
+use Rattle.queue.proofs.Laws.{queue-stays-in-range}
+use Rattle.line.specs.Inputs as input
+use Rattle.line.specs.Ranges.{ledValues, rateValues, InputInRange}
+use Rattle.line.proofs.Ranges.{line-stays-in-range}
+use Rattle.state.specs.declared.Service.{Service}
+use Rattle.state.specs.State.{newService, withLine}
+use Rattle.state.specs.Ranges.{InRange}
+use Rattle.answers.specs.declared.Answer.{Answer}
+use Rattle.events.specs.declared.Event.{Event}
+use Rattle.events.specs.declared.Event.the-variants.{Key, Call, Poll, TimeOut, Empty, Restart}
+use Rattle.events.specs.declared.Outcome.{Outcome}
+use Rattle.events.specs.Outcomes.{answeredOf, offeredOf}
+use Rattle.events.specs.Keyboard.{brokenOf, onEffect, typedOf, keyOf}
+use Rattle.events.specs.Commands.{ledValue, onLine, pollOf, acknowledgeOf, resendOf, timeOutOf, restartOf}
+use Rattle.events.specs.Functions.{takeOf, lookOf, statusOf, setRateOf, callOf}
+use Rattle.events.specs.Step.{emptyOf, stepOf}
+use Rattle.events.specs.Ranges.{StaysInRange}
+
+-- the service that an outcome leaves
+record Left (outcome : Outcome) : Type 0 where
+  left : InRange (outcome .service)
+
+-- ---- events beside the line
+
+answered-in : (service : Service) (answer : Answer) → InRange service → Left (answeredOf service answer)
+unfolding answeredOf
+answered-in service answer h = record { left = h }
+
+offered-in : (service : Service) (word : Word) (kept full : Answer) → InRange service → Left (offeredOf service word kept full)
+unfolding offeredOf
+offered-in service word kept full h = answered-in _ _ (record { queue = queue-stays-in-range .put (service .queue) word (h .queue); line = h .line })
+
+effect-in : (service : Service) (e : Effect) → InRange service → Left (onEffect service e)
+unfolding onEffect brokenOf
+effect-in service effect.Nothing h = answered-in service _ h
+effect-in service (effect.Put word) h = offered-in service word _ _ h
+effect-in service effect.Break h =
+    answered-in _ _ (record { queue = queue-stays-in-range .put queue.emptyQueue (wordAt 0x00 0x00) (queue-stays-in-range .empty); line = h .line })
+effect-in service effect.RestartAsked h = answered-in service _ h
+effect-in service effect.Overrun h = answered-in service _ h
+
+typed-in : (service : Service) (byte : ℕ) → InRange service → Left (typedOf service byte)
+unfolding typedOf
+typed-in service byte h =
+    effect-in _ (keyByteOf (service .port) (service .shared) byte .effect) (record { queue = h .queue; line = h .line })
+
+-- ---- events of the line
+
+line-in : (service : Service) (i : input.Input) → InputInRange i → InRange service → InRange (withLine service (input.lineAfter (service .line) i))
+line-in service i fits h = record { queue = h .queue; line = line-stays-in-range .input (service .line) i fits (h .line) }
+
+led-in : (scroll num caps : Bool) → byteOf scroll num caps false false false false false < ledValues
+unfolding byteOf weightOf
+led-in true true true = lit≤ tt
+led-in true true false = lit≤ tt
+led-in true false true = lit≤ tt
+led-in true false false = lit≤ tt
+led-in false true true = lit≤ tt
+led-in false true false = lit≤ tt
+led-in false false true = lit≤ tt
+led-in false false false = lit≤ tt
+
+key-in : (service : Service) (byte : ℕ) → InRange service → Left (keyOf service byte)
+unfolding keyOf acknowledgeOf resendOf onLine
+key-in service byte h =
+    either Left _ _ _ (record { left = line-in service input.acknowledge tt h })
+    (either Left _ _ _ (record { left = line-in service input.resend tt h })
+    (typed-in service byte h))
+
+poll-in : (service : Service) → InRange service → Left (pollOf service)
+unfolding pollOf onLine ledValue
+poll-in service h =
+    let locks = service .shared .locks in
+    record { left = line-in service (input.poll (ledValue locks)) (led-in (locks .scroll) (locks .num) (locks .caps)) h }
+
+-- ---- functions
+
+rate-in : (service : Service) (delay rate : ℕ) → InRange service → Left (setRateOf service delay rate)
+unfolding setRateOf
+rate-in service delay rate h =
+    by-test Left (ltb 3 delay) _ _ (λ _. answered-in service _ h)
+    (λ short. by-test Left (ltb 31 rate) _ _ (λ _. answered-in service _ h)
+    (λ slow.
+    let low : delay ≤ 3 = ltb-false 3 delay short in
+    let few : rate ≤ 31 = ltb-false 31 rate slow in
+    let pair : 32 * delay + rate < rateValues = omega arith in
+    answered-in _ _ (line-in service (input.waitRate (32 * delay + rate)) pair h)))
+
+call-in : (service : Service) (function a b : ℕ) → InRange service → Left (callOf service function a b)
+unfolding callOf takeOf lookOf statusOf
+call-in service function a b h =
+    either Left _ _ _ (answered-in _ _ (record { queue = queue-stays-in-range .take (service .queue) (h .queue); line = h .line }))
+    (either Left _ _ _ (answered-in service _ h)
+    (either Left _ _ _ (answered-in service _ h)
+    (either Left _ _ _ (answered-in service _ h)
+    (either Left _ _ _ (rate-in service a b h)
+    (either Left _ _ _ (offered-in service (wordAt a b) _ _ h) (answered-in service _ h))))))
+
+-- ---- every event
+
+step-in : (service : Service) (event : Event) → InRange service → Left (stepOf service event)
+unfolding stepOf timeOutOf onLine emptyOf restartOf
+step-in service (Key byte) h = key-in service byte h
+step-in service (Call function a b) h = call-in service function a b h
+step-in service Poll h = poll-in service h
+step-in service TimeOut h = record { left = line-in service input.timeOut tt h }
+step-in service Empty h = answered-in _ _ (record { queue = queue-stays-in-range .empty; line = h .line })
+step-in service Restart h = record { left = line-in service input.restart tt h }
+
+pub stays-in-range : StaysInRange
+unfolding newService
+stays-in-range =
+    record {
+      new = λ locks. record { queue = queue-stays-in-range .empty; line = line-stays-in-range .new };
+      event = λ service event h. step-in service event h .left;
+    }

@@ -1,0 +1,141 @@
+-- What the code of an event and of a report makes is what their definitions say.
+-- Assumes nothing.
+use Prim.Native.Nat.{ℕ, _<_, _≤_}
+use mathlib.Core.Path.{_≡_, refl, ap, sym, subst, _∙_}
+use mathlib.Core.Bool.{Bool, true, false, true≢false}
+use mathlib.Core.List.{List}
+use lib.Dec.{eqb, ltb}
+use lib.ListN.{length}
+use borrow.Author.Tests.{eqb-true, le-ltb, lt-ltb}
+use Rattle.bits.specs.Choice.{if_then_else_}
+use Rattle.bits.proofs.Choice.{by-test, either}
+use Rattle.answers.specs.declared.Refusal.the-variants as refusal
+use Rattle.answers.specs.declared.Answer.{Answer}
+use Rattle.answers.specs.declared.Answer.the-variants as answer
+use Rattle.answers.specs.Answers.{ansOf}
+use Rattle.state.specs.declared.Service.{Service}
+use Rattle.events.specs.declared.Event.{Event}
+use Rattle.events.specs.declared.Outcome.{Outcome}
+use Rattle.events.specs.Tags.{keyTag, callTag, pollTag, timeOutTag, emptyTag, restartTag, tagOf}
+use Rattle.events.specs.Step.{stepOf}
+use Rattle.events.specs.Run.{shownOf}
+use Rattle.report.specs.Report.{reportFrom, reportOf}
+use Rattle.report.specs.Reported.{reportLength, refusalIn, writtenOf, bufferOf}
+use Rattle.report.proofs.BufferLaws.{short-refused, long-reported}
+use Rattle.image.specs.declared.Image.{Image}
+use Rattle.image.specs.Image.{imageOf, serviceOf}
+use Rattle.xiquepazo.specs.declared.by_image.Tagged.{Tagged}
+use Rattle.xiquepazo.specs.declared.by_image.Ran.{Ran}
+use Rattle.xiquepazo.specs.declared.by_image.Changed.{Changed}
+use Rattle.xiquepazo.specs.declared.by_image.Refused.{Refused}
+use Rattle.xiquepazo.specs.declared.by_image.Recognised.{Recognised}
+use Rattle.xiquepazo.specs.declared.by_image.Recognised.the-variants as recognised-as
+use Rattle.xiquepazo.specs.Exports.{shownWith, seen, shownToC, changedBy, stepIn, unknownIn, recognised, isUnknown, toldOf, ranOf, taggedIn, triedIn, reportedAs, writtenAs}
+
+-- ---- an event
+
+-- what the code makes of an event as it ran
+abbrev made : Image → Ran → Changed
+made image ran =
+    let shown = shownWith (ran .service) (ran .ans) (ran .word) (ran .sent) in
+    if ltb 0x7F (ran .ans) then record { image = image; shown = shown } else record { image = imageOf (ran .service); shown = shown }
+
+made-tagged : (image : Image) (event : Recognised) → made image (ranOf (serviceOf image) event) ≡ taggedIn image event
+unfolding unknownIn stepIn shownToC toldOf if_then_else_
+made-tagged image recognised-as.Unknown = refl
+made-tagged image (recognised-as.Event event) = refl
+
+module _ (image : Image) (event : Recognised) (ran : Ran) (is : ran ≡ ranOf (serviceOf image) event) where
+  pub refused-event : 0x7F < ran .ans
+      → record { image = image; shown = shownWith (ran .service) (ran .ans) (ran .word) (ran .sent) } ≡ taggedIn image event
+  unfolding if_then_else_
+  refused-event h =
+      let found : record { image = image; shown = shownWith (ran .service) (ran .ans) (ran .word) (ran .sent) } ≡ made image ran = simp (lt-ltb 0x7F (ran .ans) h) in
+      found ∙ ap (made image) is ∙ made-tagged image event
+
+  pub accepted-event : ran .ans ≤ 0x7F
+      → record { image = imageOf (ran .service); shown = shownWith (ran .service) (ran .ans) (ran .word) (ran .sent) } ≡ taggedIn image event
+  unfolding if_then_else_
+  accepted-event h =
+      let found : record { image = imageOf (ran .service); shown = shownWith (ran .service) (ran .ans) (ran .word) (ran .sent) } ≡ made image ran = simp (le-ltb 0x7F (ran .ans) h) in
+      found ∙ ap (made image) is ∙ made-tagged image event
+
+-- ---- a report
+
+-- an event shows the same whether or not it changed its image
+pub step-shows : (image : Image) (event : Event) → seen (stepIn image event .shown) ≡ shownOf (stepOf (serviceOf image) event)
+unfolding stepIn shownToC
+step-shows image event = either (λ (changed : Changed). seen (changed .shown) ≡ shownOf (stepOf (serviceOf image) event)) _ _ _ refl refl
+
+-- the image and the number that an outcome leaves, by its answer
+abbrev leftBy : Image → Outcome → Refused
+leftBy image outcome = let changed = changedBy image outcome in record { image = changed .image; refusal = refusalIn (changed .shown .ans) }
+
+tried-by : (image : Image) (after : Service) (sent : ℕ) (answer : Answer)
+    → leftBy image (record { service = after; answer = answer; sent = sent }) ≡ triedIn image (refusalIn (ansOf answer)) after
+unfolding shownToC triedIn if_then_else_
+tried-by image after sent answer.Nothing = refl
+tried-by image after sent (answer.Put word) = refl
+tried-by image after sent (answer.Dropped word) = refl
+tried-by image after sent answer.Break = refl
+tried-by image after sent answer.RestartAsked = refl
+tried-by image after sent answer.Overrun = refl
+tried-by image after sent answer.Taken = refl
+tried-by image after sent answer.Ignored = refl
+tried-by image after sent (answer.Returned word) = refl
+tried-by image after sent answer.NoWord = refl
+tried-by image after sent (answer.Status word) = refl
+tried-by image after sent answer.Done = refl
+tried-by image after sent (answer.Stored word) = refl
+tried-by image after sent (answer.Send byte) = refl
+tried-by image after sent answer.Quiet = refl
+tried-by image after sent answer.GivenUp = refl
+tried-by image after sent (answer.Refused refusal.Function) = refl
+tried-by image after sent (answer.Refused refusal.Delay) = refl
+tried-by image after sent (answer.Refused refusal.Rate) = refl
+tried-by image after sent (answer.Refused refusal.Full) = refl
+
+-- the tag that was recognised is the tag of the event
+abbrev Named : Tagged → Recognised → Type 0
+Named tagged recognised-as.Unknown = Unit {0}
+Named tagged (recognised-as.Event event) = tagged .tag ≡ tagOf event
+
+pub named : (tagged : Tagged) → Named tagged (recognised tagged)
+unfolding recognised
+named tagged =
+    by-test (Named tagged) (eqb (tagged .tag) keyTag) _ _ (eqb-true (tagged .tag) keyTag)
+    (λ _. by-test (Named tagged) (eqb (tagged .tag) callTag) _ _ (eqb-true (tagged .tag) callTag)
+    (λ _. by-test (Named tagged) (eqb (tagged .tag) pollTag) _ _ (eqb-true (tagged .tag) pollTag)
+    (λ _. by-test (Named tagged) (eqb (tagged .tag) timeOutTag) _ _ (eqb-true (tagged .tag) timeOutTag)
+    (λ _. by-test (Named tagged) (eqb (tagged .tag) emptyTag) _ _ (eqb-true (tagged .tag) emptyTag)
+    (λ _. by-test (Named tagged) (eqb (tagged .tag) restartTag) _ _ (eqb-true (tagged .tag) restartTag) (λ _. tt))))))
+
+-- what the code makes of a report, by what stopped it
+module _ (image : Image) (tagged : Tagged) (buffer : List ℕ) where
+  pub record Reports (event : Recognised) (refused : Refused) (left : List ℕ) : Type 0 where
+    pub result : refused ≡ reportedAs image event buffer
+    pub writes : left ≡ writtenAs image event buffer
+
+  pub unknown-report : (event : Recognised) → isUnknown event ≡ true → Reports event (record { image = image; refusal = 6 }) buffer
+  unknown-report recognised-as.Unknown is = record { result = refl; writes = refl }
+  unknown-report (recognised-as.Event event) is = absurd (true≢false (sym is))
+
+  pub short-report : (event : Recognised) → isUnknown event ≡ false → length buffer < reportLength
+      → Reports event (record { image = image; refusal = 9 }) buffer
+  unfolding triedIn if_then_else_
+  short-report recognised-as.Unknown is short = absurd (true≢false is)
+  short-report (recognised-as.Event event) is short =
+      let refused = short-refused (serviceOf image) event buffer short in
+      record { result = rw (refused .result); writes = sym (refused .unwritten) }
+
+  pub long-report : (event : Recognised) → isUnknown event ≡ false → Named tagged event → reportLength ≤ length buffer
+      → let changed = taggedIn image event in
+      Reports event (record { image = changed .image; refusal = refusalIn (changed .shown .ans) }) (writtenOf (reportFrom (tagged .tag) (seen (changed .shown))) buffer)
+  unfolding stepIn bufferOf reportOf
+  long-report recognised-as.Unknown is name long = absurd (true≢false is)
+  long-report (recognised-as.Event event) is name long =
+      let outcome : Outcome = stepOf (serviceOf image) event in
+      record {
+        result = rw (long-reported (serviceOf image) event buffer long) (tried-by image (outcome .service) (outcome .sent) (outcome .answer));
+        writes = rw (name, step-shows image event);
+      }

@@ -1,0 +1,82 @@
+// A pack as C reads it, event by event.
+ghost use mathlib.Core.Path.{_≡_};
+ghost use Prim.Native.Nat.{_≤_};
+ghost use lib.ListN.{length, drop};
+ghost use Rattle.pack.specs.Reading.{firstOf, restOf};
+ghost use Rattle.xiquepazo.specs.Exports.{written};
+ghost use Rattle.xiquepazo.specs.Reads.{startOf, readTo};
+use crate::by_image::Tagged;
+use events::Event;
+use events::tags;
+use pack::Read;
+
+// `next` is where the next event begins, or the start where none was read; then the tag is 0.
+#[repr(C)]
+pub struct Reading {
+    pub next: usize,
+    pub event: Tagged,
+    pub refusal: u8,
+}
+
+// Bytes that an event does not use are 0.
+fn tagged_of(event: Event) -> Tagged
+    ensures { λ r. ⌜ r ≡ written event ⌝ }
+{
+    let tag = tags::tag_of(event);
+    let plain = Tagged {
+        tag,
+        a: 0,
+        b: 0,
+        c: 0,
+    };
+    match event {
+        Event::Key(byte) => Tagged {
+            tag,
+            a: byte,
+            b: 0,
+            c: 0,
+        },
+        Event::Call(function, a, b) => Tagged {
+            tag,
+            a: function,
+            b: a,
+            c: b,
+        },
+        Event::Poll => plain,
+        Event::TimeOut => plain,
+        Event::Empty => plain,
+        Event::Restart => plain,
+    }
+}
+
+// Where the part that is handed on begins.
+fn next_start(pack: &[u8], start: usize) -> usize
+    requires { ⌜ start ≤ length (now pack) ⌝ }
+    ensures { λ r. ⌜ r ≡ startOf (now (pack .entry)) (restOf (firstOf (drop start (now (pack .entry)))) (drop start (now (pack .entry)))) ⌝ }
+{
+    let rest = pack::rest(&pack[start..]);
+    pack.len() - rest.len()
+}
+
+pub fn read_at(pack: &[u8], start: usize) -> Reading
+    ensures { λ r. ⌜ r ≡ readTo (now (pack .entry)) start ⌝ }
+{
+    let read = pack::read_event(pack, start);
+    let Read::Event(event, _) = read else {
+        return Reading {
+            next: start,
+            event: Tagged {
+                tag: 0,
+                a: 0,
+                b: 0,
+                c: 0,
+            },
+            refusal: pack::refusal(read),
+        };
+    };
+    Reading {
+        next: next_start(pack, start),
+        event: tagged_of(event),
+        refusal: 0,
+    }
+}
