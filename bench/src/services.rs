@@ -4,7 +4,7 @@ use crate::instructions::{count, shown};
 use crate::rounds::take_turns;
 use differential::Image;
 use reference::generator::{random_events, Random, FLAVOURS};
-use reference::{Event, Service, REPORT_LENGTH};
+use reference::{Event, Outcome, Service, REPORT_LENGTH};
 use std::ffi::{OsStr, OsString};
 use std::hint::black_box;
 use std::process::Stdio;
@@ -28,8 +28,8 @@ const ROWS: [Row; 3] = [
     Row {
         name: "event",
         events: of_every_flavour,
-        agree: |events| agree(events, Image::event, Service::event),
-        proved: |events| run_proved(events, Image::event),
+        agree: |events| agree(events, event_proved, Service::event),
+        proved: |events| run_proved(events, event_proved),
         reference: |events| run_reference(events, Service::event),
     },
     Row {
@@ -42,8 +42,8 @@ const ROWS: [Row; 3] = [
     Row {
         name: "event, panel",
         events: of_a_panel,
-        agree: |events| agree(events, Image::event, Service::event),
-        proved: |events| run_proved(events, Image::event),
+        agree: |events| agree(events, event_proved, Service::event),
+        proved: |events| run_proved(events, event_proved),
         reference: |events| run_reference(events, Service::event),
     },
 ];
@@ -123,6 +123,10 @@ fn of_a_panel(count: usize) -> Vec<Event> {
         events.push(Event::Key(random.byte()));
     }
     events
+}
+
+fn event_proved(image: &mut Image, event: &Event) -> Outcome {
+    image.event(event)
 }
 
 fn report_proved(image: &mut Image, event: &Event) -> [u8; REPORT_LENGTH] {
