@@ -11,7 +11,7 @@ use borrow.Author.Tests.{ltb-true, ltb-false}
 use Rattle.bits.specs.Choice.{if_then_else_}
 use Rattle.bits.proofs.Choice.{by-test, either}
 use Rattle.word.specs.declared.Word.{Word}
-use Rattle.word.specs.Word.{wordAt}
+use Rattle.word.specs.Word.{codeOf, asciiOf, wordWith}
 use Rattle.port.specs.declared.Effect.{Effect}
 use Rattle.port.specs.declared.Effect.the-variants as effect
 use Rattle.port.specs.KeyByte.{keyByteOf}
@@ -31,7 +31,7 @@ use Rattle.answers.specs.declared.Answer.the-variants.{Put, Dropped, Taken, Bre
 use Rattle.events.specs.declared.Outcome.{Outcome}
 use Rattle.state.specs.State.{newService}
 use Rattle.events.specs.Outcomes.{answeredOf, offeredOf}
-use Rattle.events.specs.Keyboard.{brokenOf, onEffect, typedOf, keyOf}
+use Rattle.events.specs.Keyboard.{breakWord, brokenOf, onEffect, typedOf, keyOf}
 use Rattle.events.specs.Commands.{lineAnswer, onLine, pollOf, acknowledgeOf, resendOf, timeOutOf, restartOf}
 use Rattle.events.specs.Functions.{oldestAnswer, takeOf, lookOf, statusOf, setRateOf, callOf}
 use Rattle.events.specs.Step.{emptyOf, stepOf}
@@ -97,14 +97,14 @@ module _ (event : Event) (kept full : Answer) (service : Service) (word : Word) 
 
 -- ---- keys
 
-broken-told : (event : Event) (q : Queue) → Told event q Break (queue.putOf queue.emptyQueue (wordAt 0x00 0x00) .queue)
+broken-told : (event : Event) (q : Queue) → Told event q Break (queue.putOf queue.emptyQueue breakWord .queue)
 unfolding putIn if_then_else_
 broken-told event q =
     let whole = stays-whole .empty in
     record {
-      words = as-listed .put queue.emptyQueue (wordAt 0x00 0x00) whole .words ∙ simp empty-holds-none;
+      words = as-listed .put queue.emptyQueue breakWord whole .words ∙ simp empty-holds-none;
       fits = tt;
-      whole = stays-whole .put queue.emptyQueue (wordAt 0x00 0x00) whole;
+      whole = stays-whole .put queue.emptyQueue breakWord whole;
     }
 
 effect-tells : (byte : ℕ) (service : Service) (e : Effect) → Whole (service .queue) → Tells (Key byte) (service .queue) (onEffect service e)
@@ -207,7 +207,7 @@ call-tells service function a b w =
     q = service .queue
 
     word : Word
-    word = wordAt a b
+    word = wordWith (codeOf a) (asciiOf b)
 
     idle : (after : Service) (answer : Answer) → after .queue ≡ q → Idle event answer → Tells event q (answeredOf after answer)
     idle after answer e h = answered-tells event after answer q e w h

@@ -10,7 +10,7 @@ use borrow.Author.Tests.{lt-ltb}
 use Rattle.bits.specs.Choice.{if_then_else_}
 use Rattle.bits.proofs.Choice.{either}
 use Rattle.word.specs.declared.Word.{Word}
-use Rattle.word.specs.Word.{wordAt}
+use Rattle.word.specs.Word.{codeOf, asciiOf, wordWith}
 use Rattle.port.specs.declared.Effect.{Effect}
 use Rattle.port.specs.declared.Effect.the-variants as effect
 use Rattle.port.specs.KeyByte.{keyByteOf}
@@ -124,7 +124,7 @@ call-keeps service function a b =
     (either (Keeps service) _ _ _
     (either (Keeps service) _ _ _ (unchanged _ refl) (either (Keeps service) _ _ _ (unchanged _ refl) (accepting (record { low = refl }))))
     (either (Keeps service) _ _ _
-    (store-keeps service (wordAt a b) (queue.putOf (service .queue) (wordAt a b)) (put-unstored (service .queue) (wordAt a b)) _ refl)
+    (let word = wordWith (codeOf a) (asciiOf b) in store-keeps service word (queue.putOf (service .queue) word) (put-unstored (service .queue) word) _ refl)
     (unchanged _ refl))))))
 
 step-keeps : (service : Service) (event : Event) → Keeps service (stepOf service event)

@@ -29,7 +29,7 @@ use Rattle.events.specs.Outcomes.{answeredOf, offeredOf}
 use Rattle.events.specs.Step.{emptyOf, stepOf}
 use Rattle.events.specs.Commands.{restartOf}
 use Rattle.events.specs.Run.{next, after}
-use Rattle.events.specs.Resynchronised.{allUpRun, resynchronisation, remade, Resynchronises}
+use Rattle.events.specs.Resynchronised.{allUpRun, resynchronisation, remade, OnlyLocksStay, Resynchronises}
 use Rattle.events.proofs.Model.{model}
 use Rattle.events.proofs.Lists.{after-append}
 
@@ -150,8 +150,8 @@ ended : (service : Service) → after service (Empty ∷ Restart ∷ []) ≡ wit
 unfolding stepOf emptyOf restartOf answeredOf
 ended service = refl
 
-settles : (service : Service) → after service resynchronisation ≡ withLocks (service .shared .locks)
-settles service =
+pub only-locks-stay : OnlyLocksStay
+only-locks-stay service =
     after-append service (map Key allUpRun) (Empty ∷ Restart ∷ [])
     ∙ ended (after service (map Key allUpRun))
     ∙ ap (λ (s : Service). withLine s newLine) (keys-queue service allUpRun tt)
@@ -187,5 +187,5 @@ standing locks = again (locks .scroll) (locks .num) (locks .caps) (locks .insert
 
 pub resynchronises : Resynchronises
 resynchronises service =
-    let e = settles service in
+    let e = only-locks-stay service in
     e ∙ sym (ap remade e ∙ standing (service .shared .locks))

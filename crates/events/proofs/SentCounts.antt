@@ -9,7 +9,6 @@ use lib.Dec.{eqb, lit≤}
 use Rattle.bits.specs.Choice.{if_then_else_}
 use Rattle.bits.proofs.Choice.{either}
 use Rattle.word.specs.declared.Word.{Word}
-use Rattle.word.specs.Word.{wordAt}
 use Rattle.port.specs.declared.Effect.{Effect}
 use Rattle.port.specs.declared.Effect.the-variants as effect
 use Rattle.port.specs.KeyByte.{keyByteOf}

@@ -5,7 +5,7 @@ use mathlib.Core.Bool.{_||_}
 use lib.Dec.{eqb, ltb}
 use Rattle.bits.specs.Choice.{if_then_else_}
 use Rattle.word.specs.declared.Word.{Word}
-use Rattle.word.specs.Word.{wordAt}
+use Rattle.word.specs.Word.{codeOf, asciiOf, wordWith}
 use Rattle.queue.specs.declared.Oldest.{Oldest}
 use Rattle.queue.specs.declared.Oldest.the-variants.{None, Is}
 use Rattle.queue.specs.Queue as queue
@@ -56,5 +56,5 @@ callOf service function a b =
     else if eqb function 0x02 then statusOf service 0x00 (byte17Of service)
     else if eqb function 0x12 then statusOf service (statusHigh service) (byte17Of service)
     else if eqb function 0x03 then setRateOf service a b
-    else if eqb function 0x05 then storeOf service (wordAt a b)
+    else if eqb function 0x05 then storeOf service (wordWith (codeOf a) (asciiOf b))
     else answeredOf service (Refused refusal.Function)

@@ -4,7 +4,7 @@ use Prim.Native.Nat.{ℕ}
 use lib.Dec.{eqb}
 use Rattle.bits.specs.Choice.{if_then_else_}
 use Rattle.word.specs.declared.Word.{Word}
-use Rattle.word.specs.Word.{wordAt}
+use Rattle.word.specs.Word.{codeOf, asciiOf, wordWith}
 use Rattle.port.specs.declared.Effect.{Effect}
 use Rattle.port.specs.declared.Effect.the-variants as effect
 use Rattle.port.specs.KeyByte.{keyByteOf}
@@ -21,8 +21,11 @@ abbrev pub putOf : Service → Word → Outcome
 putOf service word = offeredOf service word (Put word) (Dropped word)
 
 -- break: the queue is emptied and the word 0000 put
+abbrev pub breakWord : Word
+breakWord = wordWith (codeOf 0x00) (asciiOf 0x00)
+
 unfoldable pub brokenOf : Service → Outcome
-brokenOf service = answeredOf (withQueue service (queue.putOf queue.emptyQueue (wordAt 0x00 0x00) .queue)) Break
+brokenOf service = answeredOf (withQueue service (queue.putOf queue.emptyQueue breakWord .queue)) Break
 
 unfoldable pub onEffect : Service → Effect → Outcome
 onEffect service effect.Nothing = answeredOf service Nothing

@@ -8,7 +8,6 @@ use lib.Dec.{eqb}
 use lib.ListN.{length}
 use Rattle.bits.specs.Choice.{if_then_else_}
 use Rattle.word.specs.declared.Word.{Word}
-use Rattle.word.specs.Word.{wordAt}
 use Rattle.queue.specs.Queue.{capacity}
 use Rattle.queue.specs.Words.{wordsOf, restIn}
 use Rattle.state.specs.declared.Service.{Service}
@@ -18,6 +17,7 @@ use Rattle.answers.specs.declared.Refusal.the-variants as refusal
 use Rattle.answers.specs.declared.Answer.{Answer}
 use Rattle.answers.specs.declared.Answer.the-variants.{Nothing, Put, Dropped, Break, RestartAsked, Overrun, Taken, Ignored, Returned, NoWord, Status, Done, Stored, Send, Quiet, GivenUp, Refused}
 use Rattle.state.specs.State.{newService}
+use Rattle.events.specs.Keyboard.{breakWord}
 use Rattle.events.specs.Step.{stepOf}
 use Rattle.events.specs.Run.{next, after}
 
@@ -44,7 +44,7 @@ abbrev pub wordsAfter : Event → Answer → List Word → List Word
 wordsAfter event Nothing words = words
 wordsAfter event (Put word) words = words ++ (word ∷ [])
 wordsAfter event (Dropped word) words = words
-wordsAfter event Break words = wordAt 0x00 0x00 ∷ []
+wordsAfter event Break words = breakWord ∷ []
 wordsAfter event RestartAsked words = words
 wordsAfter event Overrun words = words
 wordsAfter event Taken words = words

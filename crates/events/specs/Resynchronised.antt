@@ -6,7 +6,7 @@ use mathlib.Core.List.{List, [], _∷_, _++_, map}
 use Rattle.state.specs.declared.Service.{Service}
 use Rattle.events.specs.declared.Event.{Event}
 use Rattle.events.specs.declared.Event.the-variants.{Key, Empty, Restart}
-use Rattle.state.specs.State.{newService}
+use Rattle.state.specs.State.{withLocks, newService}
 use Rattle.state.specs.Flags.{byte17Of}
 use Rattle.events.specs.Run.{after}
 
@@ -27,6 +27,10 @@ standingLocks service = byte17Of service / 16
 abbrev pub remade : Service → Service
 remade service = newService (standingLocks service)
 
--- on every service, reached or not, they leave one that is newly made
+-- on every service, reached or not, they leave the locks as they are and all else as new
+abbrev pub OnlyLocksStay : Type 0
+OnlyLocksStay = (service : Service) → after service resynchronisation ≡ withLocks (service .shared .locks)
+
+-- so that what they leave is a service newly made
 abbrev pub Resynchronises : Type 0
 Resynchronises = (service : Service) → let settled = after service resynchronisation in settled ≡ remade settled

@@ -108,7 +108,10 @@ pub fn call(service: Service, function: u8, a: u8, b: u8) -> Outcome
         return set_rate(service, a, b);
     }
     if function == 0x05 {
-        return store(service, word::from_bytes(a, b));
+        return store(
+            service,
+            word::joined(word::scan_code(a), word::ascii_byte(b)),
+        );
     }
     refused(service, Refusal::Function)
 }

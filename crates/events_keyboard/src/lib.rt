@@ -34,7 +34,8 @@ fn put(service: Service, word: Word) -> Outcome
 fn broken(service: Service) -> Outcome
     ensures { λ r. ⌜ r ≡ brokenOf service ⌝ }
 {
-    let after = queue::put(queue::empty(), word::from_bytes(0, 0));
+    let word = word::joined(word::scan_code(0), word::ascii_byte(0));
+    let after = queue::put(queue::empty(), word);
     let left = after.queue;
     events_outcomes::answered(state::with_queue(service, left), Answer::Break)
 }

@@ -5,7 +5,7 @@ use mathlib.Core.List.{map}
 use lib.Dec.{ltb}
 use Rattle.bits.specs.Choice.{if_then_else_}
 use Rattle.word.specs.declared.Word.{Word}
-use Rattle.word.specs.Word.{wordAt}
+use Rattle.word.specs.Word.{codeOf, asciiOf, wordWith}
 use Rattle.queue.specs.declared.Queue.{Queue}
 use Rattle.queue.specs.Queue.{capacity}
 use Rattle.image.specs.declared.WordImage.{WordImage}
@@ -15,7 +15,7 @@ abbrev pub wordImage : Word → WordImage
 wordImage word = record { scan = word .scan .0; ascii = word .ascii .0 }
 
 abbrev pub wordAtImage : WordImage → Word
-wordAtImage image = wordAt (image .scan) (image .ascii)
+wordAtImage image = wordWith (codeOf (image .scan)) (asciiOf (image .ascii))
 
 unfoldable pub queueImage : Queue → QueueImage
 queueImage queue =

@@ -24,7 +24,7 @@ fn word_image(word: Word) -> WordImage
 fn word_of(image: WordImage) -> Word
     ensures { λ r. ⌜ r ≡ wordAtImage image ⌝ }
 {
-    word::from_bytes(image.scan, image.ascii)
+    word::joined(word::scan_code(image.scan), word::ascii_byte(image.ascii))
 }
 
 fn word_images(words: [Word; PLACES]) -> [WordImage; PLACES]
@@ -42,7 +42,7 @@ fn word_images(words: [Word; PLACES]) -> [WordImage; PLACES]
 fn words_of(images: [WordImage; PLACES]) -> [Word; PLACES]
     ensures { λ r. ⌜ r ≡ map wordAtImage images ⌝ }
 {
-    let mut words = [word::from_bytes(0, 0); PLACES];
+    let mut words = [word_of(WordImage { scan: 0, ascii: 0 }); PLACES];
     let mut place = 0;
     while place < PLACES {
         words[place] = word_of(images[place]);

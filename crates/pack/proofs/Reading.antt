@@ -1,25 +1,32 @@
 -- What a reading comes to once the bytes are counted, as the code counts them.
 -- Assumes nothing.
 use Prim.Native.Nat.{ℕ, _-_, _≤_, _<_}
-use mathlib.Core.Path.{_≡_, refl}
+use mathlib.Core.Bool.{Bool, true, false}
+use mathlib.Core.Path.{_≡_, refl, _∙_}
 use mathlib.Core.List.{List, [], _∷_}
 use native.Mathlib.Omega.{arith}
-use borrow.Author.Tests.{lt-ltb, le-ltb}
+use borrow.Author.Tests.{lt-ltb, le-ltb, ltb-true, ltb-false}
 use denote.Enum.Declared.{tagOf}
 use types.Run.{OneOf, miss}
-use lib.ListN.{length, getD, take, drop, length-drop}
+use lib.Dec.{ltb}
+use lib.ListN.{length, getD, take, drop, length-drop, drop-of-length-le}
 use lib.Seq.{take-all}
 use Rattle.bits.specs.Choice.{if_then_else_}
+use Rattle.bits.proofs.Choice.{by-test}
 use Rattle.events.specs.declared.Event.the-variants.{Key, Call}
 use Rattle.pack.specs.declared.Read.{Read}
 use Rattle.pack.specs.declared.Read.the-variants as read
-use Rattle.pack.specs.Reading.{limit, keyOf, callOf, taggedOf, firstOf, readAt, restOf}
+use Rattle.pack.specs.Reading.{limit, keyOf, callOf, taggedOf, firstOf, readAt, partAt, restOf}
 use Rattle.pack.specs.Laws.{Stops}
 use Rattle.pack.proofs.Read as declared
 
 -- a part that ends where its slice ends
 pub to-end : (start : ℕ) (bytes : List ℕ) → take (length bytes - start) (drop start bytes) ≡ drop start bytes
 to-end start bytes = take-all (length bytes - start) (drop start bytes) (simp length-drop (omega arith))
+
+-- one number is below another, or not
+pub by-order : {Q : Type 0} (a b : ℕ) → (a < b → Q) → (b ≤ a → Q) → Q
+by-order {Q = Q} a b less not-less = by-test (λ (_ : Bool). Q) (ltb a b) true false (λ e. less (ltb-true a b e)) (λ e. not-less (ltb-false a b e))
 
 pub key-cut : (operands : List ℕ) → length operands < 1 → keyOf operands ≡ read.CutShort
 key-cut [] short = refl
@@ -63,6 +70,17 @@ read-beyond pack start small beyond = simp (le-ltb limit (length pack) small, lt
 pub read-within : (pack : List ℕ) (start : ℕ) → length pack ≤ limit → start ≤ length pack → readAt pack start ≡ firstOf (drop start pack)
 unfolding readAt if_then_else_
 read-within pack start small within = simp (le-ltb limit (length pack) small, le-ltb (length pack) start within)
+
+pub part-too-long : (pack : List ℕ) (start : ℕ) → limit < length pack → partAt pack start ≡ []
+unfolding partAt if_then_else_
+part-too-long pack start long = simp (lt-ltb limit (length pack) long)
+
+pub part-within : (pack : List ℕ) (start : ℕ) → length pack ≤ limit → partAt pack start ≡ drop start pack
+unfolding partAt if_then_else_
+part-within pack start small = simp (le-ltb limit (length pack) small)
+
+pub part-beyond : (pack : List ℕ) (start : ℕ) → length pack ≤ limit → length pack < start → partAt pack start ≡ []
+part-beyond pack start small beyond = part-within pack start small ∙ drop-of-length-le pack {i = start} (omega arith)
 
 -- the variants after the first are no event
 pub no-event : (found : Read) → OneOf (1 ∷ 2 ∷ 3 ∷ 4 ∷ 5 ∷ []) (tagOf declared.the-type found) → Stops found

@@ -1,20 +1,20 @@
 -- The laws of a walk over a pack: where reading starts, goes on and stops.
 -- Assumes nothing.
 use Prim.Native.Nat.{ℕ, zero, suc, _+_, _-_, _≤_, _<_}
-use mathlib.Core.Path.{_≡_, refl, sym, ap, _∙_}
-use mathlib.Core.List.{List, _++_}
+use mathlib.Core.Path.{_≡_, refl, sym, ap, subst, _∙_}
+use mathlib.Core.List.{List, [], _++_}
 use native.Mathlib.Omega.{arith}
-use lib.ListN.{length, take, drop, length-drop}
+use lib.ListN.{length, take, drop, length-drop, drop-of-length-le}
 use lib.Seq.{take-add, drop-drop}
 use Rattle.bits.proofs.Choice.{either}
 use Rattle.events.specs.declared.Event.{Event}
 use Rattle.pack.specs.declared.Read.{Read}
 use Rattle.pack.specs.declared.Read.the-variants as read
-use Rattle.pack.specs.Reading.{firstOf, readAt, refusalOf}
+use Rattle.pack.specs.Reading.{limit, firstOf, readAt, partAt, refusalOf}
 use Rattle.pack.specs.Encoding.{encodeEvent}
 use Rattle.pack.specs.Parsing.{Parsed, stopped, eventThen, onRead, parseBy, parseFrom, parse}
 use Rattle.pack.specs.Laws.{PartFrom, Stops, Walk, TooLongIsRefused}
-use Rattle.pack.proofs.Reading.{read-too-long, read-within}
+use Rattle.pack.proofs.Reading.{by-order, read-too-long, read-beyond, read-within, part-too-long, part-within, part-beyond}
 use Rattle.pack.proofs.Events.{read-is-encoded}
 
 -- a reading finds an event or stops
@@ -83,7 +83,7 @@ enough (suc n) (suc m) pack start h k =
     ∙ sym (by-next m pack start event bytes e))
     (λ none. by-stop n pack start none ∙ sym (by-stop m pack start none))
 
-from-next : (pack : List ℕ) (start : ℕ) (event : Event) (bytes : ℕ) → readAt pack start ≡ read.Event event bytes
+pub from-next : (pack : List ℕ) (start : ℕ) (event : Event) (bytes : ℕ) → readAt pack start ≡ read.Event event bytes
     → parseFrom pack start ≡ eventThen event (parseFrom pack (start + bytes))
 unfolding parseFrom
 from-next pack start event bytes e =
@@ -93,6 +93,41 @@ from-next pack start event bytes e =
 
 agrees : (pack : List ℕ) (start : ℕ) (part : List ℕ) → PartFrom pack start part → readAt pack start ≡ firstOf part
 agrees pack start part from = rw (from .same) (read-within pack start (from .limited) (omega arith))
+
+-- an event is read only of a pack within the limit
+limited : (pack : List ℕ) (start : ℕ) (event : Event) (bytes : ℕ) → readAt pack start ≡ read.Event event bytes → length pack ≤ limit
+limited pack start event bytes e =
+    by-order limit (length pack) (λ long. absurd (subst Stops (sym (read-too-long pack start long) ∙ e) tt)) (λ small. small)
+
+pub event-within : (pack : List ℕ) (start : ℕ) (event : Event) (bytes : ℕ) → readAt pack start ≡ read.Event event bytes → start + bytes ≤ limit
+event-within pack start event bytes e =
+    let at = event-at pack start event bytes e in
+    omega (arith, limited pack start event bytes e)
+
+-- at the part from a start on is read what is read at the start, but that nothing can be read where 8 or 10 refuse
+by-part : {Q : Type 0} (pack : List ℕ) (start : ℕ) → (readAt pack start ≡ firstOf (partAt pack start) → Q)
+    → (partAt pack start ≡ [] → Stops (readAt pack start) → Q) → Q
+by-part pack start same none =
+    by-order limit (length pack) (λ long. none (part-too-long pack start long) (rw (read-too-long pack start long) tt))
+    (λ small.
+    by-order (length pack) start
+    (λ beyond. none (part-beyond pack start small beyond) (rw (read-beyond pack start small beyond) tt))
+    (λ inside. same (rw (part-within pack start small) (read-within pack start small inside))))
+
+pub part-event : (pack : List ℕ) (start : ℕ) (event : Event) (bytes : ℕ) → firstOf (partAt pack start) ≡ read.Event event bytes
+    → readAt pack start ≡ read.Event event bytes
+unfolding firstOf
+part-event pack start event bytes e = by-part pack start (λ same. same ∙ e) (λ none stops. absurd (subst Stops (rw none at e) tt))
+
+pub part-stops : (pack : List ℕ) (start : ℕ) → Stops (firstOf (partAt pack start)) → Stops (readAt pack start)
+part-stops pack start h = by-part pack start (λ same. rw same h) (λ none stops. stops)
+
+-- behind an event, the part handed on is the part from there on
+pub part-on : (pack : List ℕ) (start bytes : ℕ) → drop bytes (partAt pack start) ≡ partAt pack (start + bytes)
+part-on pack start bytes =
+    by-order limit (length pack)
+    (λ long. rw (part-too-long pack start long, part-too-long pack (start + bytes) long) (drop-of-length-le [] {i = bytes} (omega arith)))
+    (λ small. rw (part-within pack start small, part-within pack (start + bytes) small) (drop-drop bytes start pack))
 
 pub walk : Walk
 unfolding parseFrom

@@ -49,6 +49,10 @@ readAt pack start =
     else if ltb (length pack) start then read.Beyond
     else firstOf (drop start pack)
 
+-- the part of a pack from a start on: nothing of a pack that is too long, nothing beyond the length
+unfoldable pub partAt : List ℕ → ℕ → List ℕ
+partAt pack start = if ltb limit (length pack) then [] else drop start pack
+
 -- what is handed on after a reading: the part after the event, or the part as it is where none was read
 abbrev pub restOf : Read → List ℕ → List ℕ
 restOf (read.Event event bytes) part = drop bytes part

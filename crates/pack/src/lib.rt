@@ -1,6 +1,6 @@
 // Packs: one event is read from a part of a pack, and the part after it is handed on.
 ghost use mathlib.Core.Path.{_≡_};
-ghost use Rattle.pack.specs.Reading.{keyOf, callOf, taggedOf, firstOf, readAt, restOf, refusalOf};
+ghost use Rattle.pack.specs.Reading.{keyOf, callOf, taggedOf, firstOf, readAt, partAt, restOf, refusalOf};
 use events::Event;
 use events::tags;
 
@@ -102,6 +102,19 @@ pub fn read_event(pack: &[u8], start: usize) -> Read
         return Read::Beyond;
     }
     read_first(&pack[start..])
+}
+
+// The part of a pack from a start on: nothing of a pack that is too long, nothing beyond the length.
+pub fn part_at(pack: &[u8], start: usize) -> &[u8]
+    ensures { λ r. ⌜ now r ≡ partAt (now (pack .entry)) start ⌝ }
+{
+    if LIMIT < pack.len() {
+        return &pack[..0];
+    }
+    if pack.len() < start {
+        return &pack[..0];
+    }
+    &pack[start..]
 }
 
 // The part after the first event. A part without one is handed on as it is.

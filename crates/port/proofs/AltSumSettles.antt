@@ -3,11 +3,11 @@
 use Prim.Native.Nat.{ℕ}
 use mathlib.Core.Path.{_≡_, refl, ap, sym}
 use mathlib.Core.Bool.{Bool, true, false, _&&_, _||_, not, true≢false}
-use lib.Dec.{eqb}
 use borrow.Author.Tests.{eq-eqb}
 use Rattle.bits.specs.Choice.{if_then_else_}
 use Rattle.bits.proofs.Choice.{by-test, either}
 use Rattle.word.specs.declared.Word.{Word}
+use Rattle.word.specs.Word.{isCode}
 use Rattle.rows.specs.declared.Entry.{Entry}
 use Rattle.rows.specs.declared.Entry.the-variants.{NoRow, NoWord, Has}
 use Rattle.port.specs.declared.Code.{Code}
@@ -79,14 +79,14 @@ was-up true true prefixed false b e = e
 was-up true false prefixed false b e = e
 was-up false make prefixed broken b e = refl
 
-alt-was-up : (port : Port) (code : Code) → eqb (code .byte) 0xB8 ≡ false → eitherSide (modifiersAfter (port .modifiers) code .alt) ≡ false
+alt-was-up : (port : Port) (code : Code) → isCode 0xB8 (code .scan) ≡ false → eitherSide (modifiersAfter (port .modifiers) code .alt) ≡ false
     → eitherSide (port .modifiers .alt) ≡ false
 unfolding modifiersAfter
 alt-was-up port code b e =
     let alt = port .modifiers .alt in
     let up = or-false (tracked (alt .left) bare 0x38 code) (tracked (alt .right) afterE0 0x38 code) e in
-    let left = was-up (alt .left) (bare 0x38 code) (not (code .extended)) (eqb (code .byte) 0xB8) b (up .0) in
-    let right = was-up (alt .right) (afterE0 0x38 code) (code .extended) (eqb (code .byte) 0xB8) b (up .1) in
+    let left = was-up (alt .left) (bare 0x38 code) (not (code .extended)) (isCode 0xB8 (code .scan)) b (up .0) in
+    let right = was-up (alt .right) (afterE0 0x38 code) (code .extended) (isCode 0xB8 (code .scan)) b (up .1) in
     simp (left, right)
 
 no-break : (broken down : Bool) → (broken && not down) ≡ false → down ≡ false → broken ≡ false
@@ -97,7 +97,7 @@ no-break false down e d = refl
 changed-leaves : (port : Port) (shared : Shared) (code : Code) → Settled port → Leaves (flagsChanged port shared code)
 unfolding flagsChanged
 changed-leaves port shared code h =
-    by-test Leaves (eqb (code .byte) 0xB8 && not (eitherSide (modifiersAfter (port .modifiers) code .alt))) _ _ (λ _. ended-leaves (flagsPort port code) _)
+    by-test Leaves (isCode 0xB8 (code .scan) && not (eitherSide (modifiersAfter (port .modifiers) code .alt))) _ _ (λ _. ended-leaves (flagsPort port code) _)
     (λ e. record { port = record { zero = λ up. h .zero (alt-was-up port code (no-break _ _ e up) up) } })
 
 -- ---- every byte
@@ -141,6 +141,6 @@ alt-sum-settles =
       kept = λ port shared byte h. on-reading-leaves (readingOf (port .prefix) byte) port shared h .port;
       agree =
           λ port shared code h.
-          readings-agree (eqb (code .byte) 0xB8 && not (eitherSide (modifiersAfter (port .modifiers) code .alt))) (eitherSide (port .modifiers .alt)) _ _
+          readings-agree (isCode 0xB8 (code .scan) && not (eitherSide (modifiersAfter (port .modifiers) code .alt))) (eitherSide (port .modifiers .alt)) _ _
           (λ up. nothing-to-end (flagsPort port code) (flagsShared shared (port .held) code) (h .zero up));
     }

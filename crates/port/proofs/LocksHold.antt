@@ -10,7 +10,7 @@ use Rattle.bits.specs.Choice.{if_then_else_}
 use Rattle.bits.proofs.Choice.{either}
 use Rattle.bits.proofs.Tests.{allBelow, below}
 use Rattle.word.specs.declared.Word.{Word}
-use Rattle.word.specs.Word.{numberOf}
+use Rattle.word.specs.Word.{isCode, numberOf}
 use Rattle.rows.specs.declared.Entry.{Entry}
 use Rattle.rows.specs.declared.Entry.the-variants.{NoRow, NoWord, Has}
 use Rattle.port.specs.declared.Prefix.{Prefix}
@@ -40,12 +40,12 @@ same shared after byte port effect e = record { scroll = λ _. rw e; num = λ _.
 untoggled : (lock pressed : Bool) → pressed ≡ false → toggle pressed lock ≡ lock
 untoggled lock pressed e = simp e
 
-kept : (lock held : Bool) (make : ℕ) (code : Code) → (code .byte ≡ make → ⊥) → toggled lock held make code ≡ lock
-kept lock held make code n = untoggled lock (bare make code && not held) (simp (ne-eqb (code .byte) make n))
+kept : (lock held : Bool) (make : ℕ) (code : Code) → (code .scan .0 ≡ make → ⊥) → toggled lock held make code ≡ lock
+kept lock held make code n = untoggled lock (bare make code && not held) (simp (ne-eqb (code .scan .0) make n))
 
 -- whatever the effect is, in the two results of a code without a row
 changed-keeps : (shared : Shared) (code : Code) (port keys : Port) (effect : Effect)
-    → LocksKept shared (code .byte) (resultOf port (record { locks = locksAfter (shared .locks) (keys .held) code; paused = shared .paused }) effect)
+    → LocksKept shared (code .scan .0) (resultOf port (record { locks = locksAfter (shared .locks) (keys .held) code; paused = shared .paused }) effect)
 unfolding locksAfter
 changed-keeps shared code port keys effect =
     let l = shared .locks in
@@ -57,10 +57,10 @@ changed-keeps shared code port keys effect =
       insert = λ _. refl;
     }
 
-flags-keep : (port : Port) (shared : Shared) (code : Code) → LocksKept shared (code .byte) (flagsChanged port shared code)
+flags-keep : (port : Port) (shared : Shared) (code : Code) → LocksKept shared (code .scan .0) (flagsChanged port shared code)
 unfolding flagsChanged altEnded
 flags-keep port shared code =
-    either (LocksKept shared (code .byte)) _ _ _ (changed-keeps shared code _ port _) (changed-keeps shared code _ port _)
+    either (LocksKept shared (code .scan .0)) _ _ _ (changed-keeps shared code _ port _) (changed-keeps shared code _ port _)
 
 -- ---- makes
 
@@ -68,7 +68,7 @@ no-insert : (a b c : Bool) → b ≡ false → (a && b && c) ≡ false
 no-insert true b c e = simp e
 no-insert false b c e = refl
 
-put-keeps : (port : Port) (shared : Shared) (code : Code) (word : Word) → LocksKept shared (code .byte) (wordPut port shared code word)
+put-keeps : (port : Port) (shared : Shared) (code : Code) (word : Word) → LocksKept shared (code .scan .0) (wordPut port shared code word)
 unfolding wordPut
 put-keeps port shared code word =
     record {
@@ -78,31 +78,31 @@ put-keeps port shared code word =
       insert =
           λ n.
           untoggled (shared .locks .insert) (isInsert (port .held) code word)
-          (no-insert (eqb (code .byte) 0x52) (eqb (numberOf word) 0x5200) (not (port .held .insert)) (ne-eqb (numberOf word) 0x5200 (n word refl)));
+          (no-insert (isCode 0x52 (code .scan)) (eqb (numberOf word) 0x5200) (not (port .held .insert)) (ne-eqb (numberOf word) 0x5200 (n word refl)));
     }
 
-entry-keeps : (port : Port) (shared : Shared) (code : Code) (entry : Entry) → LocksKept shared (code .byte) (entryPut port shared code entry)
+entry-keeps : (port : Port) (shared : Shared) (code : Code) (entry : Entry) → LocksKept shared (code .scan .0) (entryPut port shared code entry)
 unfolding entryPut
-entry-keeps port shared code NoRow = same shared shared (code .byte) port _ refl
-entry-keeps port shared code NoWord = same shared shared (code .byte) port _ refl
+entry-keeps port shared code NoRow = same shared shared (code .scan .0) port _ refl
+entry-keeps port shared code NoWord = same shared shared (code .scan .0) port _ refl
 entry-keeps port shared code (Has word) = put-keeps port shared code word
 
-counted-keeps : (digit : Digit) (port : Port) (shared : Shared) (code : Code) (entry : Entry) → LocksKept shared (code .byte) (counted digit port shared code entry)
+counted-keeps : (digit : Digit) (port : Port) (shared : Shared) (code : Code) (entry : Entry) → LocksKept shared (code .scan .0) (counted digit port shared code entry)
 unfolding counted typed
 counted-keeps NoDigit port shared code entry =
-    either (LocksKept shared (code .byte)) _ _ _ (same shared shared (code .byte) _ _ refl) (entry-keeps (withSum port 0) shared code entry)
-counted-keeps (Is digit) port shared code entry = same shared shared (code .byte) _ _ refl
+    either (LocksKept shared (code .scan .0)) _ _ _ (same shared shared (code .scan .0) _ _ refl) (entry-keeps (withSum port 0) shared code entry)
+counted-keeps (Is digit) port shared code entry = same shared shared (code .scan .0) _ _ refl
 
-made-keeps : (port : Port) (shared : Shared) (code : Code) (entry : Entry) → LocksKept shared (code .byte) (madeOf port shared code entry)
+made-keeps : (port : Port) (shared : Shared) (code : Code) (entry : Entry) → LocksKept shared (code .scan .0) (madeOf port shared code entry)
 unfolding madeOf entered
 made-keeps port shared code entry =
-    either (LocksKept shared (code .byte)) _ _ _ (same shared shared (code .byte) port _ refl)
-    (either (LocksKept shared (code .byte)) _ _ _ (same shared _ (code .byte) port _ refl)
+    either (LocksKept shared (code .scan .0)) _ _ _ (same shared shared (code .scan .0) port _ refl)
+    (either (LocksKept shared (code .scan .0)) _ _ _ (same shared _ (code .scan .0) port _ refl)
     (counted-keeps (altDigit (eitherSide (port .modifiers .alt)) code) port shared code entry))
 
 -- ---- every byte
 
-on-entry-keeps : (entry : Entry) (port : Port) (shared : Shared) (code : Code) → LocksKept shared (code .byte) (onEntry entry port shared code)
+on-entry-keeps : (entry : Entry) (port : Port) (shared : Shared) (code : Code) → LocksKept shared (code .scan .0) (onEntry entry port shared code)
 unfolding onEntry
 on-entry-keeps NoRow port shared code = flags-keep port shared code
 on-entry-keeps NoWord port shared code = made-keeps port shared code NoWord
@@ -114,7 +114,7 @@ is-itself byte Overrun = true
 is-itself byte (Opens prefix) = true
 is-itself byte Pauses = true
 is-itself byte PauseEnds = true
-is-itself byte (Key code) = eqb byte (code .byte)
+is-itself byte (Key code) = isCode byte (code .scan)
 
 abbrev reads-itself : Prefix → ℕ → Bool
 reads-itself prefix byte = is-itself byte (readingOf prefix byte)
@@ -135,7 +135,7 @@ on-reading-keeps byte (Opens prefix) port shared t = same shared shared byte _ _
 on-reading-keeps byte Pauses port shared t = same shared _ byte _ _ refl
 on-reading-keeps byte PauseEnds port shared t = same shared shared byte _ _ refl
 on-reading-keeps byte (Key code) port shared t =
-    rw (eqb→eq byte (code .byte) t) (on-entry-keeps (entryFor code (port .modifiers) (shared .locks)) (withPrefix port Closed) shared code)
+    rw (← (eqb→eq (code .scan .0) byte t)) (on-entry-keeps (entryFor code (port .modifiers) (shared .locks)) (withPrefix port Closed) shared code)
 
 pub locks-hold : LocksHold
 unfolding keyByteOf

@@ -6,7 +6,7 @@ use mathlib.Core.Bool.{Bool, true, false, _&&_, _||_, not}
 use lib.Dec.{eqb}
 use Rattle.bits.specs.Choice.{if_then_else_}
 use Rattle.word.specs.declared.Word.{Word}
-use Rattle.word.specs.Word.{numberOf}
+use Rattle.word.specs.Word.{isCode, numberOf}
 use Rattle.port.specs.declared.Prefix.{Prefix}
 use Rattle.port.specs.declared.Prefix.the-variants.{Closed, E0, E1, E1Make, E1Break}
 use Rattle.port.specs.declared.Code.{Code}
@@ -40,7 +40,7 @@ pub record Settled (port : Port) : Type 0 where
 -- the narrow reading of "the last Alt goes up": an Alt must have been down before its break
 abbrev pub flagsChangedNarrowly : Port → Shared → Code → Decoded
 flagsChangedNarrowly port shared code =
-    if eqb (code .byte) 0xB8 && not (eitherSide (modifiersAfter (port .modifiers) code .alt)) && eitherSide (port .modifiers .alt)
+    if isCode 0xB8 (code .scan) && not (eitherSide (modifiersAfter (port .modifiers) code .alt)) && eitherSide (port .modifiers .alt)
     then altEnded (flagsPort port code) (flagsShared shared (port .held) code)
     else resultOf (flagsPort port code) (flagsShared shared (port .held) code) Nothing
 

@@ -5,7 +5,7 @@ use lib.Dec.{eqb}
 use Rattle.bits.specs.Choice.{if_then_else_}
 use Rattle.bits.specs.Bits.{toggle}
 use Rattle.word.specs.declared.Word.{Word}
-use Rattle.word.specs.Word.{codeOf, numberOf}
+use Rattle.word.specs.Word.{isCode, numberOf}
 use Rattle.rows.specs.declared.Entry.{Entry}
 use Rattle.rows.specs.declared.Entry.the-variants.{NoRow, NoWord, Has}
 use Rattle.rows.specs.Lookup.{lookupOf}
@@ -25,12 +25,12 @@ use Rattle.port.specs.AltEntry.{altDigit, sumAfter}
 -- the row's entry in the column that applies
 unfoldable pub entryFor : Code → Modifiers → Locks → Entry
 entryFor code m l =
-    lookupOf (codeOf (code .byte)) (code .extended)
+    lookupOf (code .scan) (code .extended)
     (record { shift = eitherSide (m .shift); ctrl = eitherSide (m .ctrl); alt = eitherSide (m .alt); caps = l .caps; num = l .num })
 
 -- the Insert rule: 52 or E0 52 yields 5200 while Ins held is clear
 abbrev pub isInsert : Held → Code → Word → Bool
-isInsert held code word = eqb (code .byte) 0x52 && eqb (numberOf word) 0x5200 && not (held .insert)
+isInsert held code word = isCode 0x52 (code .scan) && eqb (numberOf word) 0x5200 && not (held .insert)
 
 abbrev pub withInsertHeld : Port → Bool → Port
 withInsertHeld port insert =
@@ -61,7 +61,7 @@ entryPut port shared code (Has word) = wordPut port shared code word
 -- step 8 before 9: E0 46 is break
 unfoldable pub typed : Port → Shared → Code → Entry → Decoded
 typed port shared code entry =
-    if eqb (code .byte) 0x46 && code .extended then resultOf port shared Break else entryPut port shared code entry
+    if isCode 0x46 (code .scan) && code .extended then resultOf port shared Break else entryPut port shared code entry
 
 -- step 7: a digit counts and is done, any other make sets the sum to 0 and goes on
 unfoldable pub counted : Digit → Port → Shared → Code → Entry → Decoded
@@ -74,6 +74,6 @@ entered port shared code entry = counted (altDigit (eitherSide (port .modifiers 
 -- step 5: restart asked; step 6: a pause ends and the make does nothing else
 unfoldable pub madeOf : Port → Shared → Code → Entry → Decoded
 madeOf port shared code entry =
-    if eqb (code .byte) 0x53 && eitherSide (port .modifiers .ctrl) && eitherSide (port .modifiers .alt) then resultOf port shared RestartAsked
+    if isCode 0x53 (code .scan) && eitherSide (port .modifiers .ctrl) && eitherSide (port .modifiers .alt) then resultOf port shared RestartAsked
     else if shared .paused then resultOf port (withPaused shared false) Nothing
     else entered port shared code entry

@@ -2,6 +2,7 @@
 // crates above.
 ghost use mathlib.Core.Path.{_≡_};
 ghost use Rattle.port.specs.State.{eitherSide, newPort, withPrefix, withSum, withPaused, resultOf};
+use word::ScanCode;
 use word::Word;
 
 // What has been read of a prefix: nothing, E0, E1, E1 1D or E1 9D.
@@ -69,9 +70,9 @@ pub struct Decoded {
     pub effect: Effect,
 }
 
-// A byte that is no prefix, after E0 or not.
+// A scan code, after E0 or not.
 pub struct Code {
-    pub byte: u8,
+    pub scan: ScanCode,
     pub extended: bool,
 }
 

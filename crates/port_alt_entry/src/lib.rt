@@ -7,23 +7,42 @@ use port::Digit;
 use port::Effect;
 use port::Port;
 use port::Shared;
+use word::ScanCode;
 
-fn keypad_digit(byte: u8) -> Digit
-    ensures { λ r. ⌜ r ≡ digitIn byte ⌝ }
+fn keypad_digit(scan: ScanCode) -> Digit
+    ensures { λ r. ⌜ r ≡ digitIn scan ⌝ }
 {
-    match byte {
-        0x52 => Digit::Is(0),
-        0x4F => Digit::Is(1),
-        0x50 => Digit::Is(2),
-        0x51 => Digit::Is(3),
-        0x4B => Digit::Is(4),
-        0x4C => Digit::Is(5),
-        0x4D => Digit::Is(6),
-        0x47 => Digit::Is(7),
-        0x48 => Digit::Is(8),
-        0x49 => Digit::Is(9),
-        _ => Digit::NoDigit,
+    if scan.is(0x52) {
+        return Digit::Is(0);
     }
+    if scan.is(0x4F) {
+        return Digit::Is(1);
+    }
+    if scan.is(0x50) {
+        return Digit::Is(2);
+    }
+    if scan.is(0x51) {
+        return Digit::Is(3);
+    }
+    if scan.is(0x4B) {
+        return Digit::Is(4);
+    }
+    if scan.is(0x4C) {
+        return Digit::Is(5);
+    }
+    if scan.is(0x4D) {
+        return Digit::Is(6);
+    }
+    if scan.is(0x47) {
+        return Digit::Is(7);
+    }
+    if scan.is(0x48) {
+        return Digit::Is(8);
+    }
+    if scan.is(0x49) {
+        return Digit::Is(9);
+    }
+    Digit::NoDigit
 }
 
 // The digit that a code enters: with Alt, and not after E0.
@@ -31,7 +50,7 @@ pub fn alt_digit(alt: bool, code: Code) -> Digit
     ensures { λ r. ⌜ r ≡ altDigit alt code ⌝ }
 {
     if alt & !code.extended {
-        return keypad_digit(code.byte);
+        return keypad_digit(code.scan);
     }
     Digit::NoDigit
 }
@@ -48,7 +67,7 @@ fn sum_put(sum: u8) -> Effect
     if sum == 0 {
         return Effect::Nothing;
     }
-    Effect::Put(word::from_bytes(0, sum))
+    Effect::Put(word::joined(word::scan_code(0), word::ascii_byte(sum)))
 }
 
 // The last Alt goes up: a sum above 0 is put, and the sum becomes 0.

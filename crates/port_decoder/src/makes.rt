@@ -28,14 +28,14 @@ pub fn entry_for(code: Code, modifiers: Modifiers, locks: Locks) -> Entry
         caps: locks.caps,
         num: locks.num,
     };
-    rows_tables::lookup(word::scan_code(code.byte), code.extended, selector)
+    rows_tables::lookup(code.scan, code.extended, selector)
 }
 
 // Whether the word is the Insert word, of a key that was up.
 fn is_insert(held: Held, code: Code, word: Word) -> bool
     ensures { λ r. ⌜ r ≡ isInsert held code word ⌝ }
 {
-    (code.byte == 0x52) & (word::number(word) == 0x5200) & !held.insert
+    code.scan.is(0x52) & (word::number(word) == 0x5200) & !held.insert
 }
 
 // The word is put, and the Insert rule is applied.
@@ -58,7 +58,7 @@ fn put(port: Port, shared: Shared, code: Code, word: Word) -> Decoded
 fn type_key(port: Port, shared: Shared, code: Code, entry: Entry) -> Decoded
     ensures { λ r. ⌜ r ≡ typed port shared code entry ⌝ }
 {
-    if (code.byte == 0x46) & code.extended {
+    if code.scan.is(0x46) & code.extended {
         return port::result(port, shared, Effect::Break);
     }
     match entry {
@@ -88,7 +88,7 @@ pub fn made(port: Port, shared: Shared, code: Code, entry: Entry) -> Decoded
 {
     let ctrl = port::down(port.modifiers.ctrl);
     let alt = port::down(port.modifiers.alt);
-    if (code.byte == 0x53) & ctrl & alt {
+    if code.scan.is(0x53) & ctrl & alt {
         return port::result(port, shared, Effect::RestartAsked);
     }
     if shared.paused {

@@ -14,23 +14,23 @@ use port::Sides;
 fn modifiers_after(modifiers: Modifiers, code: Code) -> Modifiers
     ensures { λ r. ⌜ r ≡ modifiersAfter modifiers code ⌝ }
 {
-    let byte = code.byte;
+    let scan = code.scan;
     let e0 = code.extended;
     let shift = modifiers.shift;
     let ctrl = modifiers.ctrl;
     let alt = modifiers.alt;
     Modifiers {
         shift: Sides {
-            left: !((byte == 0xAA) & !e0) & (((byte == 0x2A) & !e0) | shift.left),
-            right: !((byte == 0xB6) & !e0) & (((byte == 0x36) & !e0) | shift.right),
+            left: !(scan.is(0xAA) & !e0) & ((scan.is(0x2A) & !e0) | shift.left),
+            right: !(scan.is(0xB6) & !e0) & ((scan.is(0x36) & !e0) | shift.right),
         },
         ctrl: Sides {
-            left: !((byte == 0x9D) & !e0) & (((byte == 0x1D) & !e0) | ctrl.left),
-            right: !((byte == 0x9D) & e0) & (((byte == 0x1D) & e0) | ctrl.right),
+            left: !(scan.is(0x9D) & !e0) & ((scan.is(0x1D) & !e0) | ctrl.left),
+            right: !(scan.is(0x9D) & e0) & ((scan.is(0x1D) & e0) | ctrl.right),
         },
         alt: Sides {
-            left: !((byte == 0xB8) & !e0) & (((byte == 0x38) & !e0) | alt.left),
-            right: !((byte == 0xB8) & e0) & (((byte == 0x38) & e0) | alt.right),
+            left: !(scan.is(0xB8) & !e0) & ((scan.is(0x38) & !e0) | alt.left),
+            right: !(scan.is(0xB8) & e0) & ((scan.is(0x38) & e0) | alt.right),
         },
     }
 }
@@ -39,14 +39,14 @@ fn modifiers_after(modifiers: Modifiers, code: Code) -> Modifiers
 fn held_after(held: Held, code: Code) -> Held
     ensures { λ r. ⌜ r ≡ heldAfter held code ⌝ }
 {
-    let byte = code.byte;
+    let scan = code.scan;
     let e0 = code.extended;
     Held {
-        scroll: !((byte == 0xC6) & !e0) & (((byte == 0x46) & !e0) | held.scroll),
-        num: !((byte == 0xC5) & !e0) & (((byte == 0x45) & !e0) | held.num),
-        caps: !((byte == 0xBA) & !e0) & (((byte == 0x3A) & !e0) | held.caps),
-        insert: !(byte == 0xD2) & held.insert,
-        sysreq: !((byte == 0xD4) & !e0) & (((byte == 0x54) & !e0) | held.sysreq),
+        scroll: !(scan.is(0xC6) & !e0) & ((scan.is(0x46) & !e0) | held.scroll),
+        num: !(scan.is(0xC5) & !e0) & ((scan.is(0x45) & !e0) | held.num),
+        caps: !(scan.is(0xBA) & !e0) & ((scan.is(0x3A) & !e0) | held.caps),
+        insert: !scan.is(0xD2) & held.insert,
+        sysreq: !(scan.is(0xD4) & !e0) & ((scan.is(0x54) & !e0) | held.sysreq),
     }
 }
 
@@ -54,12 +54,12 @@ fn held_after(held: Held, code: Code) -> Held
 fn locks_after(locks: Locks, held: Held, code: Code) -> Locks
     ensures { λ r. ⌜ r ≡ locksAfter locks held code ⌝ }
 {
-    let byte = code.byte;
+    let scan = code.scan;
     let e0 = code.extended;
     Locks {
-        scroll: locks.scroll ^ ((byte == 0x46) & !e0 & !held.scroll),
-        num: locks.num ^ ((byte == 0x45) & !e0 & !held.num),
-        caps: locks.caps ^ ((byte == 0x3A) & !e0 & !held.caps),
+        scroll: locks.scroll ^ (scan.is(0x46) & !e0 & !held.scroll),
+        num: locks.num ^ (scan.is(0x45) & !e0 & !held.num),
+        caps: locks.caps ^ (scan.is(0x3A) & !e0 & !held.caps),
         insert: locks.insert,
     }
 }
@@ -82,7 +82,7 @@ pub fn changed(port: Port, shared: Shared, code: Code) -> Decoded
         locks,
         paused: shared.paused,
     };
-    if (code.byte == 0xB8) & !port::down(modifiers.alt) {
+    if code.scan.is(0xB8) & !port::down(modifiers.alt) {
         return port_alt_entry::ended(next, common);
     }
     port::result(next, common, Effect::Nothing)

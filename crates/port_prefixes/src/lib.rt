@@ -20,7 +20,8 @@ fn opening(extended: bool, byte: u8) -> Reading
     if byte == PAUSE[0] {
         return Reading::Opens(Prefix::E1);
     }
-    Reading::Key(Code { byte, extended })
+    let scan = word::scan_code(byte);
+    Reading::Key(Code { scan, extended })
 }
 
 fn after_e1(byte: u8) -> Reading

@@ -6,7 +6,7 @@ use lib.Dec.{eqb, ltb}
 use lib.ListN.{getD, set, replicate}
 use Rattle.bits.specs.Choice.{if_then_else_}
 use Rattle.word.specs.declared.Word.{Word}
-use Rattle.word.specs.Word.{wordAt}
+use Rattle.word.specs.Word.{codeOf, asciiOf, wordWith}
 use Rattle.queue.specs.declared.Queue.{Queue}
 use Rattle.queue.specs.declared.Oldest.{Oldest}
 use Rattle.queue.specs.declared.Oldest.the-variants.{None, Is}
@@ -23,7 +23,7 @@ arrayLength = 16
 
 -- what stands where nothing was put yet
 abbrev pub blank : Word
-blank = wordAt 0x00 0x00
+blank = wordWith (codeOf 0x00) (asciiOf 0x00)
 
 -- the queue of a new service, and of one that was emptied
 unfoldable pub emptyQueue : Queue

@@ -38,7 +38,7 @@ pub struct Taken {
 pub fn empty() -> Queue
     ensures { λ r. ⌜ r ≡ emptyQueue ⌝ }
 {
-    let blank = word::from_bytes(0, 0);
+    let blank = word::joined(word::scan_code(0), word::ascii_byte(0));
     Queue {
         words: [blank; PLACES],
         head: 0,

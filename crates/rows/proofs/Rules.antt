@@ -1,78 +1,76 @@
 -- The row rules, each from one test computed at every code.
 -- Assumes nothing.
-use mathlib.Core.Path.{_≡_, refl, subst}
-use mathlib.Core.Bool.{Bool, true, false, _||_, not}
-use Prim.Native.Nat.{ℕ, _-_, _<_}
+use mathlib.Core.Path.{_≡_, refl, ap, subst}
+use mathlib.Core.Bool.{Bool, true, false, _&&_, _||_, not}
+use Prim.Native.Nat.{ℕ, _<_}
 use lib.Dec.{T, eqb, eqb→eq}
 use borrow.Author.Tests.{eq-eqb}
 use Rattle.bits.specs.Choice.{if_then_else_}
-use Rattle.bits.proofs.Tests.{implies, implied, allBelow, below}
+use Rattle.bits.proofs.Tests.{and-left, and-right, implies, implied, allBelow, below}
+use Rattle.word.specs.declared.ScanCode.{ScanCode}
 use Rattle.word.specs.declared.Word.{Word}
-use Rattle.word.specs.Word.{wordAt, numberOf}
+use Rattle.word.specs.Word.{codeOf, sameCode, tableIndex, numberOf}
 use Rattle.rows.specs.declared.Column.{Column}
 use Rattle.rows.specs.declared.Column.the-variants.{Plain, Shift, Ctrl, Alt}
 use Rattle.rows.specs.declared.Entry.{Entry}
 use Rattle.rows.specs.declared.Entry.the-variants.{NoRow, NoWord, Has}
 use Rattle.rows.specs.Printed.{printAt}
-use Rattle.rows.specs.Rows.{rows, rowAt}
+use Rattle.rows.specs.Rows.{rows, extendedRows, rowAt}
 use Rattle.rows.specs.Column.{isLetter}
-use Rattle.rows.specs.Lookup.{entryAt}
+use Rattle.rows.specs.Lookup.{rowsFor, entryAt}
 use Rattle.rows.specs.Ascending.{ascending}
-use Rattle.rows.specs.Rules.{RowRules, asciiIn, isWhole}
+use Rattle.rows.specs.Rules.{RowRules, plainLess, onlyHigh, isWhole}
 use Rattle.rows.proofs.Entries.{same, same-equal}
 
--- a test of the word, passed where there is none
-abbrev onWord : (Word → Bool) → Entry → Bool
-onWord f NoRow = true
-onWord f NoWord = true
-onWord f (Has word) = f word
+-- a letter's entry in a column is the one expected
+abbrev letter-agrees : Column → (ScanCode → Entry) → ScanCode → Bool
+letter-agrees column expected code = implies (isLetter code) (same (entryAt false code column) (expected code))
 
--- a letter's entry in a column is its plain one less a number
-abbrev less : Column → ℕ → ℕ → Entry
-less column n code = Has (wordAt code (asciiIn (entryAt false code Plain) - n))
+letter-rule : (column : Column) (expected : ScanCode → Entry) → T (allBelow (λ (n : ℕ). letter-agrees column expected (codeOf n)) 256)
+    → (code : ScanCode) → tableIndex code < 256 → T (isLetter code) → entryAt false code column ≡ expected code
+letter-rule column expected t code h l =
+    same-equal (entryAt false code column) (expected code)
+    (implied (isLetter code) (same (entryAt false code column) (expected code))
+    (below (λ (n : ℕ). letter-agrees column expected (codeOf n)) 256 t (tableIndex code) h) l)
 
-abbrev letter-test : Column → ℕ → ℕ → Bool
-letter-test column n code = implies (isLetter code) (same (entryAt false code column) (less column n code))
+-- what is tested of every word in a table, with the code and the column where it stands
+abbrev is-nonzero : Word → Bool
+is-nonzero word = not (eqb (numberOf word) 0)
 
-letter-rule : (column : Column) (n : ℕ) → T (allBelow (letter-test column n) 256) → (code : ℕ) → code < 256 → T (isLetter code)
-    → entryAt false code column ≡ less column n code
-letter-rule column n t code h l =
-    same-equal (entryAt false code column) (less column n code)
-    (implied (isLetter code) (same (entryAt false code column) (less column n code)) (below (letter-test column n) 256 t code h) l)
+abbrev has-high : Bool → ScanCode → Column → Word → Bool
+has-high extended code column word = isWhole (printAt (rowAt (rowsFor extended) code) column) || sameCode (word .scan) code
 
--- a test of every word in the table, with the code and the column where it stands
-abbrev word-test : (ℕ → Column → Word → Bool) → Column → ℕ → Bool
-word-test f column code = onWord (f code column) (entryAt false code column)
+-- passed where there is no word
+abbrev entry-passes : Bool → ScanCode → Column → Entry → Bool
+entry-passes extended code column NoRow = true
+entry-passes extended code column NoWord = true
+entry-passes extended code column (Has word) = is-nonzero word && has-high extended code column word
 
-word-rule : (f : ℕ → Column → Word → Bool) → ((column : Column) → T (allBelow (word-test f column) 256))
-    → (code : ℕ) → code < 256 → (column : Column) (word : Word) → entryAt false code column ≡ Has word → T (f code column word)
-word-rule f t code h column word e = subst (λ (x : Entry). T (onWord (f code column) x)) e (below (word-test f column) 256 (t column) code h)
+abbrev passes : Bool → Column → ℕ → Bool
+passes extended column n = entry-passes extended (codeOf n) column (entryAt extended (codeOf n) column)
 
-abbrev is-nonzero : ℕ → Column → Word → Bool
-is-nonzero code column word = not (eqb (numberOf word) 0)
+test : (extended : Bool) (column : Column) → T (allBelow (passes extended column) 256)
+unfolding if_then_else_ rows extendedRows entryAt
+test false Plain = tt
+test false Shift = tt
+test false Ctrl = tt
+test false Alt = tt
+test true Plain = tt
+test true Shift = tt
+test true Ctrl = tt
+test true Alt = tt
 
-nonzero-test : (column : Column) → T (allBelow (word-test is-nonzero column) 256)
-unfolding if_then_else_ rows entryAt
-nonzero-test Plain = tt
-nonzero-test Shift = tt
-nonzero-test Ctrl = tt
-nonzero-test Alt = tt
+passed : (extended : Bool) (code : ScanCode) → tableIndex code < 256 → (column : Column) (word : Word) → entryAt extended code column ≡ Has word
+    → T (is-nonzero word && has-high extended code column word)
+passed extended code h column word e =
+    subst (λ (x : Entry). T (entry-passes extended code column x)) e (below (passes extended column) 256 (test extended column) (tableIndex code) h)
 
 nonzero-sound : (n : ℕ) → T (not (eqb n 0)) → n ≡ 0 → ⊥
 nonzero-sound n t e = subst (λ (b : Bool). T (not b)) (eq-eqb n 0 e) t
 
-abbrev has-high : ℕ → Column → Word → Bool
-has-high code column word = isWhole (printAt (rowAt rows code) column) || eqb (word .scan .0) code
-
-high-test : (column : Column) → T (allBelow (word-test has-high column) 256)
-unfolding if_then_else_ rows entryAt
-high-test Plain = tt
-high-test Shift = tt
-high-test Ctrl = tt
-high-test Alt = tt
-
-high-sound : (b : Bool) (m n : ℕ) → T (b || eqb m n) → b ≡ false → m ≡ n
-high-sound b m n t e = eqb→eq m n (subst (λ (x : Bool). T (x || eqb m n)) e t)
+high-sound : (b : Bool) (scan code : ScanCode) → T (b || sameCode scan code) → b ≡ false → scan ≡ code
+high-sound b scan code t e =
+    ap codeOf (eqb→eq (tableIndex scan) (tableIndex code) (subst (λ (x : Bool). T (x || sameCode scan code)) e t))
 
 pub row-rules : RowRules
 unfolding if_then_else_ rows ascending entryAt
@@ -81,10 +79,14 @@ row-rules =
       printed = refl;
       count = refl;
       rise = tt;
-      nonzero = λ code h column word e. nonzero-sound (numberOf word) (word-rule is-nonzero nonzero-test code h column word e);
-      upper = letter-rule Shift 0x20 tt;
-      control = letter-rule Ctrl 0x60 tt;
+      nonzero =
+          λ extended code h column word e.
+          nonzero-sound (numberOf word) (and-left (is-nonzero word) (has-high extended code column word) (passed extended code h column word e));
+      upper = letter-rule Shift (plainLess 0x20) tt;
+      control = letter-rule Ctrl (plainLess 0x60) tt;
+      alternate = letter-rule Alt onlyHigh tt;
       high =
-          λ code h column word e.
-          high-sound (isWhole (printAt (rowAt rows code) column)) (word .scan .0) code (word-rule has-high high-test code h column word e);
+          λ extended code h column word e.
+          high-sound (isWhole (printAt (rowAt (rowsFor extended) code) column)) (word .scan) code
+          (and-right (is-nonzero word) (has-high extended code column word) (passed extended code h column word e));
     }

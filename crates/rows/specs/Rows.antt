@@ -4,7 +4,9 @@ use Prim.Native.Nat.{ℕ, zero, suc, _+_, _-_}
 use mathlib.Core.List.{List, [], _∷_, _++_, map}
 use lib.Dec.{eqb}
 use Rattle.bits.specs.Choice.{if_then_else_}
-use Rattle.rows.specs.Printed.{Print, none, low, whole, Row, row}
+use Rattle.word.specs.declared.ScanCode.{ScanCode}
+use Rattle.word.specs.Word.{codeOf, sameCode}
+use Rattle.rows.specs.Printed.{Print, none, low, whole, Row, rowOf, row}
 
 -- the digit rows: ctrl at 03 and 07 only, alt one hundred on from row to row
 abbrev pub digitCtrl : ℕ → Print
@@ -78,18 +80,18 @@ rows =
     ∷ [])
 
 -- the row of a code
-abbrev pub rowAt : List Row → ℕ → Row
-rowAt [] code = row code none none none none
-rowAt (r ∷ more) code = if eqb code (r .code) then r else rowAt more code
+abbrev pub rowAt : List Row → ScanCode → Row
+rowAt [] code = rowOf code none none none none
+rowAt (r ∷ more) code = if sameCode code (r .code) then r else rowAt more code
 
 -- an extended row of the row with its code: plain also where Shift would apply, and none under Alt
-abbrev pub extended : ℕ → Row
+abbrev pub extended : ScanCode → Row
 unfolding rows
-extended code = let r = rowAt rows code in row code (r .plain) (r .plain) (r .ctrl) none
+extended code = let r = rowAt rows code in rowOf code (r .plain) (r .plain) (r .ctrl) none
 
 unfoldable pub extendedRows : List Row
 extendedRows =
-    map extended (0x47 ∷ 0x48 ∷ 0x49 ∷ 0x4B ∷ 0x4D ∷ 0x4F ∷ 0x50 ∷ 0x51 ∷ 0x52 ∷ 0x53 ∷ 0x1C ∷ [])
+    map extended (map codeOf (0x47 ∷ 0x48 ∷ 0x49 ∷ 0x4B ∷ 0x4D ∷ 0x4F ∷ 0x50 ∷ 0x51 ∷ 0x52 ∷ 0x53 ∷ 0x1C ∷ []))
     ++ (row 0x35 (low 0x2F) (low 0x2F) none none
     ∷ row 0x37 none none none none
     ∷ row 0x46 none none none none

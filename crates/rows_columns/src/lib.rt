@@ -3,23 +3,22 @@ ghost use mathlib.Core.Path.{_≡_};
 ghost use Rattle.rows.specs.Column.{isLetter, isKeypad, isShifted, columnOf};
 use rows::Column;
 use rows::Selector;
+use word::ScanCode;
 
-fn is_letter(code: u8) -> bool
+fn is_letter(code: ScanCode) -> bool
     ensures { λ r. ⌜ r ≡ isLetter code ⌝ }
 {
-    ((0x10 <= code) & (code <= 0x19))
-        | ((0x1E <= code) & (code <= 0x26))
-        | ((0x2C <= code) & (code <= 0x32))
+    code.within(0x10, 0x19) | code.within(0x1E, 0x26) | code.within(0x2C, 0x32)
 }
 
-fn is_keypad(code: u8) -> bool
+fn is_keypad(code: ScanCode) -> bool
     ensures { λ r. ⌜ r ≡ isKeypad code ⌝ }
 {
-    (0x47 <= code) & (code <= 0x53)
+    code.within(0x47, 0x53)
 }
 
 // Letters turn with Caps, the keypad with Num.
-fn is_shifted(code: u8, selector: Selector) -> bool
+fn is_shifted(code: ScanCode, selector: Selector) -> bool
     ensures { λ r. ⌜ r ≡ isShifted code selector ⌝ }
 {
     if is_letter(code) {
@@ -32,7 +31,7 @@ fn is_shifted(code: u8, selector: Selector) -> bool
 }
 
 // Alt before Ctrl before Shift.
-pub fn column_of(code: u8, selector: Selector) -> Column
+pub fn column_of(code: ScanCode, selector: Selector) -> Column
     ensures { λ r. ⌜ r ≡ columnOf code selector ⌝ }
 {
     if selector.alt {

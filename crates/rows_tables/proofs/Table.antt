@@ -9,6 +9,8 @@ use lib.ListN.{getD}
 use borrow.Author.Tests.{lt-ltb, le-ltb}
 use Rattle.bits.specs.Choice.{if_then_else_}
 use Rattle.bits.proofs.Tests.{and-left, and-right, allBelow, below}
+use Rattle.word.specs.declared.ScanCode.{ScanCode}
+use Rattle.word.specs.Word.{codeOf, tableIndex}
 use Rattle.rows.specs.declared.Column.{Column}
 use Rattle.rows.specs.declared.Column.the-variants.{Plain, Shift, Ctrl, Alt}
 use Rattle.rows.specs.Rows.{rows, extendedRows}
@@ -23,10 +25,10 @@ index-below Ctrl = lit< tt
 index-below Alt = lit< tt
 
 -- what a read of the index, of the 78 rows and of the extended rows gives
-pub placed : (extended t : Bool) (code : ℕ) → extended ≡ t → code < 0x60
-    → getD (getD (places t) (code / 8) []) (code % 8) 0 ≡ placeOf extended code
+pub placed : (extended t : Bool) (code : ScanCode) (at : ℕ) → at ≡ tableIndex code → extended ≡ t → at < 0x60
+    → getD (getD (places t) (at / 8) []) (at % 8) 0 ≡ placeOf extended code
 unfolding placeOf if_then_else_
-placed extended t code e h = simp (e, lt-ltb code 0x60 h)
+placed extended t code at i e h = simp (e, ← i, lt-ltb at 0x60 h)
 
 pub in-rows : (place at : ℕ) (column : Column) → at ≡ indexOf column → place < 78
     → entryOf (getD (getD (table false) place []) at 0) ≡ cellOf place column
@@ -38,22 +40,22 @@ pub in-extended-rows : (place at : ℕ) (column : Column) → at ≡ indexOf col
 unfolding cellOf if_then_else_
 in-extended-rows place at column e l h = simp (e, le-ltb place 78 l, lt-ltb place 92 h)
 
-abbrev agree : Bool → ℕ → Column → Bool
+abbrev agree : Bool → ScanCode → Column → Bool
 agree extended code column = same (cellOf (placeOf extended code) column) (entryAt extended code column)
 
 -- at every column
-abbrev row-agrees : Bool → ℕ → Bool
+abbrev row-agrees : Bool → ScanCode → Bool
 row-agrees extended code =
     agree extended code Plain && (agree extended code Shift && (agree extended code Ctrl && agree extended code Alt))
 
-abbrev code-agrees : ℕ → Bool
+abbrev code-agrees : ScanCode → Bool
 code-agrees code = row-agrees false code && row-agrees true code
 
-test : T (allBelow code-agrees 256)
+test : T (allBelow (λ (n : ℕ). code-agrees (codeOf n)) 256)
 unfolding if_then_else_ rows extendedRows entryAt table places placeOf cellOf
 test = tt
 
-at-row : (extended : Bool) (code : ℕ) → T (code-agrees code) → T (row-agrees extended code)
+at-row : (extended : Bool) (code : ScanCode) → T (code-agrees code) → T (row-agrees extended code)
 at-row false code t = and-left (row-agrees false code) (row-agrees true code) t
 at-row true code t = and-right (row-agrees false code) (row-agrees true code) t
 
@@ -63,14 +65,14 @@ at-column p q r s t =
     let v = and-right q (r && s) u in
     (and-left p (q && (r && s)) t, and-left q (r && s) u, and-left r s v, and-right r s v)
 
-pub tabled : (extended : Bool) (code : ℕ) → code < 256 → (column : Column)
+pub tabled : (extended : Bool) (code : ScanCode) → tableIndex code < 256 → (column : Column)
     → cellOf (placeOf extended code) column ≡ entryAt extended code column
 tabled extended code h column = same-equal (cellOf (placeOf extended code) column) (entryAt extended code column) (go column)
   where
     all : T (agree extended code Plain) × T (agree extended code Shift) × T (agree extended code Ctrl) × T (agree extended code Alt)
     all =
         at-column (agree extended code Plain) (agree extended code Shift) (agree extended code Ctrl) (agree extended code Alt)
-        (at-row extended code (below code-agrees 256 test code h))
+        (at-row extended code (below (λ (n : ℕ). code-agrees (codeOf n)) 256 test (tableIndex code) h))
 
     go : (k : Column) → T (agree extended code k)
     go Plain = all .0

@@ -160,10 +160,10 @@ fn entry_of(number: u16) -> Entry
     Entry::Has(word::from_number(number))
 }
 
-fn place(extended: bool, code: u8) -> u8
+fn place(extended: bool, code: ScanCode) -> u8
     ensures { λ r. ⌜ r ≡ placeOf extended code ⌝ }
 {
-    let at = code as usize;
+    let at = code.table_index();
     if 0x60 <= at {
         return 92;
     }
@@ -191,9 +191,8 @@ fn cell(place: u8, column: Column) -> Entry
 pub fn lookup(code: ScanCode, extended: bool, selector: Selector) -> Entry
     ensures { λ r. ⌜ r ≡ lookupOf code extended selector ⌝ }
 {
-    let byte = word::code_byte(code);
     cell(
-        place(extended, byte),
-        rows_columns::column_of(byte, selector),
+        place(extended, code),
+        rows_columns::column_of(code, selector),
     )
 }

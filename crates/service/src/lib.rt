@@ -1,10 +1,13 @@
-// The service: newly made, and after one event of any kind. Every value of the types has a meaning, so no call asks anything.
+// The service: newly made, after one event of any kind, and resynchronised. Every value of the types has a meaning, so no call asks anything.
 ghost use mathlib.Core.Path.{_≡_};
-ghost use Rattle.state.specs.State.{locksOf, newService, makeOf};
+ghost use Rattle.state.specs.State.{locksOf, quietOf, newService, makeOf};
 ghost use Rattle.events.specs.Step.{emptyOf, stepOf};
+ghost use Rattle.events.specs.Run.{after};
+ghost use Rattle.events.specs.Resynchronised.{resynchronisation};
 use answers::Answer;
 use events::Event;
 use events::Outcome;
+use line::Line;
 use port::Locks;
 use port::Shared;
 use state::Made;
@@ -21,22 +24,24 @@ fn locks_of(bits: u8) -> Locks
     }
 }
 
-fn new(bits: u8) -> Service
-    ensures { λ r. ⌜ r ≡ newService bits ⌝ }
+// A service with no key down and no word.
+fn quiet(locks: Locks, paused: bool, line: Line) -> Service
+    ensures { λ r. ⌜ r ≡ quietOf locks paused line ⌝ }
 {
     let port = port::new();
-    let locks = locks_of(bits);
     let queue = queue::empty();
-    let line = line::new();
     Service {
         port,
-        shared: Shared {
-            locks,
-            paused: false,
-        },
+        shared: Shared { locks, paused },
         queue,
         line,
     }
+}
+
+fn new(bits: u8) -> Service
+    ensures { λ r. ⌜ r ≡ newService bits ⌝ }
+{
+    quiet(locks_of(bits), false, line::new())
 }
 
 // A service newly made with four lock bits.
@@ -75,4 +80,11 @@ pub fn step(service: Service, event: Event) -> Outcome
         Event::Empty => empty(service),
         Event::Restart => events_commands::restart(service),
     }
+}
+
+// What the all-up run, E and R leave, without feeding them: only the locks stay.
+pub fn resynchronise(service: Service) -> Service
+    ensures { λ r. ⌜ r ≡ after service resynchronisation ⌝ }
+{
+    quiet(service.shared.locks, false, line::new())
 }

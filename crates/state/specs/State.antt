@@ -1,7 +1,7 @@
 -- Document 01, "Service and events": how a service is made, and services with one part changed.
 -- Assumes nothing.
 use Prim.Native.Nat.{ℕ, _/_, _%_}
-use mathlib.Core.Bool.{false}
+use mathlib.Core.Bool.{Bool, false}
 use lib.Dec.{eqb, ltb}
 use Rattle.bits.specs.Choice.{if_then_else_}
 use Rattle.port.specs.declared.Port.{Port}
@@ -25,9 +25,14 @@ locksOf bits =
       insert = eqb (bits / 8 % 2) 1;
     }
 
+-- no key down, no word in the queue
+abbrev pub quietOf : Locks → Bool → Line → Service
+quietOf locks paused line =
+    record { port = newPort; shared = record { locks = locks; paused = paused }; queue = emptyQueue; line = line }
+
 -- all but the locks is clear, the queue empty, the line idle
 abbrev pub withLocks : Locks → Service
-withLocks locks = record { port = newPort; shared = record { locks = locks; paused = false }; queue = emptyQueue; line = newLine }
+withLocks locks = quietOf locks false newLine
 
 unfoldable pub newService : ℕ → Service
 newService bits = withLocks (locksOf bits)

@@ -2,7 +2,6 @@
 -- Assumes nothing.
 use Prim.Native.Nat.{ℕ}
 use mathlib.Core.List.{List, [], _∷_, _++_}
-use lib.ListN.{length, drop}
 use Rattle.state.specs.declared.Service.{Service}
 use Rattle.state.specs.State.{newService}
 use Rattle.pack.specs.Parsing.{Parsed, parse}
@@ -28,7 +27,3 @@ printedOf service parsed = textsOf service (parsed .events) ++ closingOf (parsed
 -- the text of a pack, from locks 0
 unfoldable pub traceOf : List ℕ → List ℕ
 traceOf pack = printedOf (newService 0) (parse pack)
-
--- a buffer with that text at its start and what was behind it
-unfoldable pub tracedOf : List ℕ → List ℕ → List ℕ
-tracedOf pack text = traceOf pack ++ drop (length (traceOf pack)) text

@@ -1,32 +1,47 @@
-// A whole pack to its whole text: the reports of its events, then where reading ended and why.
+// The text of a pack, part by part: the reports of its events, then where reading ended and why.
 ghost use mathlib.Core.Path.{_≡_};
 ghost use mathlib.Core.List.{_++_};
-ghost use Prim.Native.Nat.{_+_, _<_, _≤_};
+ghost use Prim.Native.Nat.{_+_, _≤_};
 ghost use lib.ListN.{length, take, drop};
-ghost use Rattle.state.specs.State.{newService};
 ghost use Rattle.events.specs.Run.{next};
+ghost use Rattle.pack.specs.Reading.{readAt, refusalOf};
 ghost use Rattle.report.specs.Text.{textOf};
 ghost use Rattle.report.specs.Reported.{eventReport};
-ghost use Rattle.trace.specs.Trace.{closingOf, traceOf, tracedOf};
+ghost use Rattle.trace.specs.Trace.{closingOf};
+ghost use Rattle.trace.specs.Parts.{placeAt, firstPlace, endedAt, partOf, partIn};
 use events::Event;
 use pack::Read;
 use state::Service;
 
-// Room for the reports of the most events that a pack can hold, one to a byte, and the closing lines.
-pub const LENGTH: usize = 1441811;
+// The most reports of a part.
+const REPORTS: usize = 372;
+
+// Room for a part. The closing lines are shorter than a report, so they fit wherever one more report would.
+pub const PART: usize = REPORTS * report::LENGTH;
 
 const CLOSING: usize = 19;
 
 // The closing lines, with a point for each character that is filled in.
 const BLANK: [u8; CLOSING] = *b"end=....\nrefused=.\n";
 
-fn closing(end: usize, refusal: u8) -> [u8; CLOSING]
-    requires { ⌜ end < 65536 ⌝ }
+// Where printing stands: the offset of the next event and the service that it finds. Once the closing lines are printed it has ended.
+pub struct Place {
+    pub service: Service,
+    pub offset: u16,
+    pub ended: bool,
+}
+
+// A part that was printed: how long it is, and the place where the next one goes on.
+pub struct Part {
+    pub place: Place,
+    pub length: usize,
+}
+
+fn closing(end: u16, refusal: u8) -> [u8; CLOSING]
     ensures { λ r. ⌜ r ≡ closingOf end refusal ⌝ }
 {
-    let offset = end as u16;
-    let high = digits::high_byte(offset);
-    let low = digits::low_byte(offset);
+    let high = digits::high_byte(end);
+    let low = digits::low_byte(end);
     let mut lines = BLANK;
     lines[4] = digits::high(high);
     lines[5] = digits::low(high);
@@ -36,18 +51,26 @@ fn closing(end: usize, refusal: u8) -> [u8; CLOSING]
     lines
 }
 
-// The closing lines at a place of the text. Gives the place behind them.
-fn close_at(end: usize, refusal: u8, text: &mut [u8], at: usize) -> usize
-    requires { ⌜ (end < 65536) × (at + 19 ≤ length (now text)) ⌝ }
-    ensures { λ r. ⌜ r ≡ at + 19 ⌝ }
+// The closing lines from an index of the text on, which end the printing there.
+fn close_at(service: Service, end: u16, refusal: u8, text: &mut [u8], at: usize) -> Part
+    requires { ⌜ at + 19 ≤ length (now text) ⌝ }
+    ensures { λ r. ⌜ (r .place ≡ endedAt service end) × (r .length ≡ at + 19) ⌝ }
     ensures { λ _. ⌜ now (text .exit) ≡ take at (now (text .entry)) ++ (closingOf end refusal ++ drop (at + 19) (now (text .entry))) ⌝ }
 {
     let lines = closing(end, refusal);
     bytes::copy(&lines, &mut text[at..]);
-    at + CLOSING
+    let place = Place {
+        service,
+        offset: end,
+        ended: true,
+    };
+    Part {
+        place,
+        length: at + CLOSING,
+    }
 }
 
-// One event, with its report at a place of the text.
+// One event, with its report from an index of the text on.
 fn report_at(service: Service, event: Event, text: &mut [u8], at: usize) -> Service
     requires { ⌜ at + 44 ≤ length (now text) ⌝ }
     ensures { λ r. ⌜ r ≡ next service event ⌝ }
@@ -57,43 +80,61 @@ fn report_at(service: Service, event: Event, text: &mut [u8], at: usize) -> Serv
     reported.service
 }
 
-// The service that kbdtrace runs: made with lock bits 0.
-fn unlocked() -> Service
-    ensures { λ r. ⌜ r ≡ newService 0 ⌝ }
+// Printing goes on with the event at an offset.
+fn place_at(service: Service, offset: u16) -> Place
+    ensures { λ r. ⌜ r ≡ placeAt service offset ⌝ }
 {
-    let made = service::make(0);
-    made.service
+    Place {
+        service,
+        offset,
+        ended: false,
+    }
 }
 
-// The text of a pack at the start of a buffer that has room for it. Gives its length.
-fn write(pack: &[u8], text: &mut [u8]) -> usize
-    requires { ⌜ 1441811 ≤ length (now text) ⌝ }
-    ensures { λ r. ⌜ r ≡ length (traceOf (now (pack .entry))) ⌝ }
-    ensures { λ _. ⌜ now (text .exit) ≡ tracedOf (now (pack .entry)) (now (text .entry)) ⌝ }
+// Nothing is printed yet. kbdtrace runs a service made with lock bits 0.
+pub fn begin() -> Place
+    ensures { λ r. ⌜ r ≡ firstPlace ⌝ }
 {
-    if pack::LIMIT < pack.len() {
-        return close_at(0, 8, text, 0);
+    let made = service::make(0);
+    place_at(made.service, 0)
+}
+
+// Why no event can be read at an offset, 0 at the end.
+fn refusal_at(pack: &[u8], offset: u16) -> u8
+    ensures { λ r. ⌜ r ≡ refusalOf (readAt (now (pack .entry)) offset) ⌝ }
+{
+    let read = pack::read_event(pack, offset as usize);
+    pack::refusal(read)
+}
+
+// The next part of the text of a pack, written to the start of `text`; what stands behind it stays.
+pub fn next_part(pack: &[u8], place: Place, text: &mut [u8; PART]) -> Part
+    ensures { λ r. ⌜ r ≡ partOf (now (pack .entry)) place ⌝ }
+    ensures { λ _. ⌜ now (text .exit) ≡ partIn (now (pack .entry)) place (now (text .entry)) ⌝ }
+{
+    if place.ended {
+        return Part { place, length: 0 };
     }
-    let mut part = pack;
-    let mut service = unlocked();
-    let mut offset: usize = 0;
+    let mut service = place.service;
+    let mut offset = place.offset;
+    let start = offset as usize;
+    let mut part = pack::part_at(pack, start);
     let mut at: usize = 0;
-    loop {
+    let mut left = REPORTS;
+    while 0 < left {
         let read = pack::read_first(part);
         let Read::Event(event, bytes) = read else {
-            return close_at(offset, pack::refusal(read), text, at);
+            return close_at(service, offset, refusal_at(pack, offset), text, at);
         };
         service = report_at(service, event, text, at);
         part = &part[bytes..];
-        offset += bytes;
-        at += 44;
+        offset += bytes as u16;
+        at += report::LENGTH;
+        left -= 1;
     }
-}
-
-// What kbdtrace prints for a pack, at the start of the text. Gives its length; what stands behind it stays.
-pub fn trace(pack: &[u8], text: &mut [u8; LENGTH]) -> usize
-    ensures { λ r. ⌜ r ≡ length (traceOf (now (pack .entry))) ⌝ }
-    ensures { λ _. ⌜ now (text .exit) ≡ tracedOf (now (pack .entry)) (now (text .entry)) ⌝ }
-{
-    write(pack, text)
+    let next = place_at(service, offset);
+    Part {
+        place: next,
+        length: at,
+    }
 }

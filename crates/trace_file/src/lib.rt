@@ -1,50 +1,86 @@
 // The trace of the pack in an open file, on standard output: what the programs share.
 ghost use mathlib.Core.Path.{_≡_};
-ghost use Prim.Native.Nat.{_≤_};
+ghost use Prim.Native.Nat.{_+_, _≤_};
 ghost use lib.ListN.{length};
+ghost use Rattle.pack.specs.Reading.{limit};
+ghost use Rattle.trace.specs.Parts.{partLength};
 use libc::STDOUT_FILENO;
 
 // One byte more than a pack may have, so that a longer one is seen to be too long.
-const INPUT: usize = 32769;
+const INPUT: usize = pack::LIMIT + 1;
+
+// What came of a trace: written whole, or a read or a write failed, and errno says why.
+pub enum Traced {
+    Whole,
+    NotRead,
+    NotWritten,
+}
+
+// What was read of a file: how many of its bytes stand in the buffer, and whether a read failed.
+struct Got {
+    length: usize,
+    failed: bool,
+}
 
 fn input() -> [u8; INPUT]
-    ensures { λ r. ⌜ 32769 ≡ length r ⌝ }
+    ensures { λ r. ⌜ length r ≡ limit + 1 ⌝ }
 {
     [0; INPUT]
 }
 
-fn output() -> [u8; trace::LENGTH]
-    ensures { λ r. ⌜ 1441811 ≡ length r ⌝ }
+fn output() -> [u8; trace::PART]
+    ensures { λ r. ⌜ length r ≡ partLength ⌝ }
 {
-    [0; trace::LENGTH]
+    [0; trace::PART]
 }
 
 // Reads a file on to its end. What it writes over is not looked at: a pack this long is refused whole.
-fn drain(file: i32, pack: &mut [u8]) {
+fn drain(file: i32, pack: &mut [u8]) -> bool {
     let mut reads = usize::MAX;
     while 0 < reads {
-        if io::read_full(file, pack) == 0 {
-            return;
+        let got = libc::read(file, pack);
+        if got <= 0 {
+            return got == 0;
         }
         reads -= 1;
     }
+    true
 }
 
-// Reads a file to its end. Gives how many of its bytes stand in the pack.
-fn read_pack(file: i32, pack: &mut [u8]) -> usize
-    ensures { λ r. ⌜ r ≤ length (now (pack .exit)) ⌝ }
+// Reads a file to its end or to a read that fails.
+fn read_pack(file: i32, pack: &mut [u8]) -> Got
+    ensures { λ r. ⌜ r .length ≤ length (now (pack .exit)) ⌝ }
 {
-    let got = io::read_full(file, pack);
-    if got == pack.len() {
-        drain(file, pack);
+    let mut length: usize = 0;
+    while length < pack.len() {
+        let got = libc::read(file, &mut pack[length..]);
+        let bytes = io::count(got, &pack[length..]);
+        if bytes == 0 {
+            let failed = got < 0;
+            return Got { length, failed };
+        }
+        length += bytes;
     }
-    got
+    let failed = !drain(file, pack);
+    Got { length, failed }
 }
 
-pub fn write_trace(file: i32) {
+pub fn write_trace(file: i32) -> Traced {
     let mut pack = input();
     let got = read_pack(file, &mut pack);
+    if got.failed {
+        return Traced::NotRead;
+    }
+    let length = got.length;
     let mut text = output();
-    let written = trace::trace(&pack[..got], &mut text);
-    io::write_all(STDOUT_FILENO, &text[..written]);
+    let mut place = trace::begin();
+    while !place.ended {
+        let part = trace::next_part(&pack[..length], place, &mut text);
+        let printed = part.length;
+        if !io::write_all(STDOUT_FILENO, &text[..printed]) {
+            return Traced::NotWritten;
+        }
+        place = part.place;
+    }
+    Traced::Whole
 }

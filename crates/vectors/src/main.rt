@@ -1,5 +1,6 @@
 // Writes the trace of each pack that an argument names, under a line with that name.
 use libc::STDOUT_FILENO;
+use trace_file::Traced;
 
 // The line of one argument and the trace of the file that it names.
 fn write_named(argument: usize) {
@@ -12,7 +13,11 @@ fn write_named(argument: usize) {
     }
     io::write_all(STDOUT_FILENO, &name[..length]);
     io::write_all(STDOUT_FILENO, &[b'\n']);
-    trace_file::write_trace(file);
+    match trace_file::write_trace(file) {
+        Traced::Whole => {}
+        Traced::NotRead => os::fail(&name[..length]),
+        Traced::NotWritten => os::fail(b"standard output"),
+    }
     libc::close(file);
 }
 

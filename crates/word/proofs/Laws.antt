@@ -4,11 +4,11 @@ use mathlib.Core.Path.{_≡_, ap, _∙_}
 use Prim.Native.Nat.{ℕ, _+_, _*_, _/_, _%_, _<_}
 use native.Mathlib.Omega.{arith}
 use Rattle.word.specs.declared.Word.{Word}
-use Rattle.word.specs.Word.{wordAt, wordFrom, numberOf}
+use Rattle.word.specs.Word.{codeOf, asciiOf, wordWith, wordFrom, numberOf}
 
 -- words with equal bytes are equal
 pub word-equal : {v w : Word} → v .scan .0 ≡ w .scan .0 → v .ascii .0 ≡ w .ascii .0 → v ≡ w
-word-equal {v} {w} p q = ap (λ (x : ℕ). wordAt x (v .ascii .0)) p ∙ ap (wordAt (w .scan .0)) q
+word-equal {v} {w} p q = ap (λ (x : ℕ). wordWith (codeOf x) (v .ascii)) p ∙ ap (λ (x : ℕ). wordWith (w .scan) (asciiOf x)) q
 
 pub number-of-from : (n : ℕ) → numberOf (wordFrom n) ≡ n
 number-of-from n = omega arith

@@ -1,6 +1,8 @@
 -- Document 01, the words: a scan code over an ASCII byte, on types that keep the two apart.
 -- Assumes nothing.
-use Prim.Native.Nat.{ℕ, _+_, _*_, _/_, _%_}
+use Prim.Native.Nat.{ℕ, _+_, _-_, _*_, _/_, _%_}
+use mathlib.Core.Bool.{Bool, _&&_}
+use lib.Dec.{eqb, leb}
 use Rattle.word.specs.declared.ScanCode.{ScanCode}
 use Rattle.word.specs.declared.Ascii.{Ascii}
 use Rattle.word.specs.declared.Word.{Word}
@@ -11,16 +13,30 @@ codeOf byte = record { 0 = byte }
 abbrev pub asciiOf : ℕ → Ascii
 asciiOf byte = record { 0 = byte }
 
+abbrev pub asciiLess : Ascii → ℕ → Ascii
+asciiLess ascii n = asciiOf (ascii .0 - n)
+
+-- a code tested by its number, and by a run of numbers
+abbrev pub isCode : ℕ → ScanCode → Bool
+isCode number code = eqb (code .0) number
+
+abbrev pub within : ℕ → ℕ → ScanCode → Bool
+within first last code = leb first (code .0) && leb (code .0) last
+
+-- two codes are one
+abbrev pub sameCode : ScanCode → ScanCode → Bool
+sameCode code other = eqb (code .0) (other .0)
+
+-- a code's place in a table with a place for each code
+abbrev pub tableIndex : ScanCode → ℕ
+tableIndex code = code .0
+
 abbrev pub wordWith : ScanCode → Ascii → Word
 wordWith scan ascii = record { scan = scan; ascii = ascii }
 
--- the word of two bytes
-abbrev pub wordAt : ℕ → ℕ → Word
-wordAt high low = wordWith (codeOf high) (asciiOf low)
-
 -- the word of a 16-bit number
 abbrev pub wordFrom : ℕ → Word
-wordFrom number = wordAt (number / 0x100) (number % 0x100)
+wordFrom number = wordWith (codeOf (number / 0x100)) (asciiOf (number % 0x100))
 
 -- the 16-bit number of a word
 abbrev pub numberOf : Word → ℕ

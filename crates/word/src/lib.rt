@@ -1,6 +1,6 @@
 // Scan codes, ASCII bytes and the words made of them. The three types are built and opened in this crate only.
 ghost use mathlib.Core.Path.{_≡_};
-ghost use Rattle.word.specs.Word.{codeOf, wordWith, wordAt, wordFrom, numberOf};
+ghost use Rattle.word.specs.Word.{codeOf, asciiOf, isCode, within, tableIndex, wordWith, wordFrom, numberOf};
 
 // The number of a key.
 pub struct ScanCode(u8);
@@ -19,23 +19,39 @@ pub fn scan_code(byte: u8) -> ScanCode
     ScanCode(byte)
 }
 
-pub fn code_byte(code: ScanCode) -> u8
-    ensures { λ r. ⌜ r ≡ code .0 ⌝ }
+pub fn ascii_byte(byte: u8) -> Ascii
+    ensures { λ r. ⌜ r ≡ asciiOf byte ⌝ }
 {
-    code.0
+    Ascii(byte)
 }
 
-fn joined(scan: ScanCode, ascii: Ascii) -> Word
+impl ScanCode {
+    // Whether the code has this number.
+    pub fn is(self, number: u8) -> bool
+        ensures { λ r. ⌜ r ≡ isCode number self ⌝ }
+    {
+        self.0 == number
+    }
+
+    // Whether the code's number lies in a run.
+    pub fn within(self, first: u8, last: u8) -> bool
+        ensures { λ r. ⌜ r ≡ within first last self ⌝ }
+    {
+        (first <= self.0) & (self.0 <= last)
+    }
+
+    // The code's place in a table with a place for each code.
+    pub fn table_index(self) -> usize
+        ensures { λ r. ⌜ r ≡ tableIndex self ⌝ }
+    {
+        self.0 as usize
+    }
+}
+
+pub fn joined(scan: ScanCode, ascii: Ascii) -> Word
     ensures { λ r. ⌜ r ≡ wordWith scan ascii ⌝ }
 {
     Word { scan, ascii }
-}
-
-// The word of a high and a low byte.
-pub fn from_bytes(high: u8, low: u8) -> Word
-    ensures { λ r. ⌜ r ≡ wordAt high low ⌝ }
-{
-    joined(ScanCode(high), Ascii(low))
 }
 
 pub fn high(word: Word) -> u8
@@ -54,7 +70,7 @@ pub fn low(word: Word) -> u8
 pub fn from_number(number: u16) -> Word
     ensures { λ r. ⌜ r ≡ wordFrom number ⌝ }
 {
-    from_bytes((number / 256) as u8, (number % 256) as u8)
+    joined(ScanCode((number / 256) as u8), Ascii((number % 256) as u8))
 }
 
 // The 16-bit number of a word, scan code high.

@@ -51,15 +51,21 @@ returns-5 : tie.Need-returns-5
 unfolding callOf if_then_else_
 returns-5 c = simp (c .set-rate .ensures, eq-eqb _ _ (c .before .if5 .taken), ne-eqb _ _ (c .before .before .if4 .left), ne-eqb _ _ (c .before .before .before .if3 .left), c .before .before .before .before .if2 .left, c .before .before .before .before .before .if1 .left)
 
-from-bytes-requires : tie.Need-from-bytes-requires
-from-bytes-requires c κs = search needs
+scan-code-requires : tie.Need-scan-code-requires
+scan-code-requires c κs = search needs
+
+ascii-byte-requires : tie.Need-ascii-byte-requires
+ascii-byte-requires c κs = search needs
+
+joined-requires : tie.Need-joined-requires
+joined-requires c κs = search needs
 
 store-requires : tie.Need-store-requires
 store-requires c κs = search needs
 
 returns-6 : tie.Need-returns-6
 unfolding callOf if_then_else_
-returns-6 c = simp (c .store .ensures, ← (c .before .from-bytes .ensures), eq-eqb _ _ (c .before .before .if6 .taken), ne-eqb _ _ (c .before .before .before .if5 .left), ne-eqb _ _ (c .before .before .before .before .if4 .left), ne-eqb _ _ (c .before .before .before .before .before .if3 .left), c .before .before .before .before .before .before .if2 .left, c .before .before .before .before .before .before .before .if1 .left)
+returns-6 c = simp (c .store .ensures, ← (c .before .joined .ensures), ← (c .before .before .ascii-byte .ensures), ← (c .before .before .before .scan-code .ensures), eq-eqb _ _ (c .before .before .before .before .if6 .taken), ne-eqb _ _ (c .before .before .before .before .before .if5 .left), ne-eqb _ _ (c .before .before .before .before .before .before .if4 .left), ne-eqb _ _ (c .before .before .before .before .before .before .before .if3 .left), c .before .before .before .before .before .before .before .before .if2 .left, c .before .before .before .before .before .before .before .before .before .if1 .left)
 
 refused-requires : tie.Need-refused-requires
 refused-requires c κs = search needs
@@ -85,7 +91,9 @@ call-spec =
     returns-4
     set-rate-requires
     returns-5
-    from-bytes-requires
+    scan-code-requires
+    ascii-byte-requires
+    joined-requires
     store-requires
     returns-6
     refused-requires

@@ -1,7 +1,7 @@
 -- The proof of `port_modifiers::changed`.
 -- Assumes nothing.
-use Rattle.bits.specs.Choice.{if_then_else_}
 use Rattle.port.specs.Flags.{flagsChanged}
+use Rattle.bits.specs.Choice.{if_then_else_}
 use borrow.Author.Needs.{needs}
 use Rattle.port_modifiers.proofs.changed.Statement.{statement}
 use Rattle.port_modifiers.proofs.changed.Tie as tie
@@ -15,6 +15,9 @@ held-after-requires c κs = search needs
 locks-after-requires : tie.Need-locks-after-requires
 locks-after-requires c κs = search needs
 
+is-requires : tie.Need-is-requires
+is-requires c κs = search needs
+
 down-requires : tie.Need-down-requires
 down-requires c κs = search needs
 
@@ -23,14 +26,14 @@ ended-requires c κs = search needs
 
 returns : tie.Need-returns
 unfolding flagsChanged if_then_else_
-returns c = simp (c .ended .ensures, c .before .if1 .taken, ← (c .before .before .down .ensures), ← (c .before .before .before .before .locks-after .ensures), ← (c .before .before .before .before .before .held-after .ensures), ← (c .before .before .before .before .before .before .modifiers-after .ensures))
+returns c = simp (c .ended .ensures, c .before .if1 .taken, ← (c .before .before .down .ensures), ← (c .before .before .before .is .ensures), ← (c .before .before .before .before .locks-after .ensures), ← (c .before .before .before .before .before .held-after .ensures), ← (c .before .before .before .before .before .before .modifiers-after .ensures))
 
 result-requires : tie.Need-result-requires
 result-requires c κs = search needs
 
 returns-2 : tie.Need-returns-2
 unfolding flagsChanged if_then_else_
-returns-2 c = simp (c .result .ensures, c .before .if1 .left, ← (c .before .before .down .ensures), ← (c .before .before .before .before .locks-after .ensures), ← (c .before .before .before .before .before .held-after .ensures), ← (c .before .before .before .before .before .before .modifiers-after .ensures))
+returns-2 c = simp (c .result .ensures, c .before .if1 .left, ← (c .before .before .down .ensures), ← (c .before .before .before .is .ensures), ← (c .before .before .before .before .locks-after .ensures), ← (c .before .before .before .before .before .held-after .ensures), ← (c .before .before .before .before .before .before .modifiers-after .ensures))
 
 pub changed-spec : {M : Type 1} → statement M
 changed-spec =
@@ -39,6 +42,7 @@ changed-spec =
     modifiers-after-requires
     held-after-requires
     locks-after-requires
+    is-requires
     down-requires
     ended-requires
     returns

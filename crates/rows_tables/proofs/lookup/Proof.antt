@@ -7,9 +7,6 @@ use borrow.Author.Needs.{needs}
 use Rattle.rows_tables.proofs.lookup.Statement.{statement}
 use Rattle.rows_tables.proofs.lookup.Tie as tie
 
-code-byte-requires : tie.Need-code-byte-requires
-code-byte-requires c κs = search needs
-
 place-requires : tie.Need-place-requires
 place-requires c κs = search needs
 
@@ -22,10 +19,9 @@ cell-requires c κs = search needs
 returns : tie.Need-returns
 unfolding lookupOf
 returns c =
-    let a = c .before .before .before .before .args in
-    simp (c .cell .ensures, c .before .column-of .ensures, c .before .before .place .ensures, c .before .before .before .code-byte .ensures)
-    (tabled (a .extended) (a .code .0) (search needs) (columnOf (a .code .0) (a .selector)))
+    let a = c .before .before .before .args in
+    simp (c .cell .ensures, c .before .column-of .ensures, c .before .before .place .ensures)
+    (tabled (a .extended) (a .code) (search needs) (columnOf (a .code) (a .selector)))
 
 pub lookup-spec : {M : Type 1} → statement M
-lookup-spec =
-    tie.close (tie.spec code-byte-requires place-requires column-of-requires cell-requires returns)
+lookup-spec = tie.close (tie.spec place-requires column-of-requires cell-requires returns)

@@ -26,8 +26,8 @@ part-copy-end c = search needs
 copy-requires : tie.Need-copy-requires
 copy-requires c κs = search needs
 
-add-result : tie.Need-add-result
-add-result c = search needs
+add-t9 : tie.Need-add-t9
+add-t9 c = search needs
 
 same-length : tie.Need-same-length
 same-length c = search needs
@@ -37,7 +37,7 @@ unfolding closingOf
 returns c =
     let closed = c .before .before .before .before .before in
     let a = closed .before .before .args in
-    (refl, simp (c .before .before .copy .ensures .1, closed .closing .ensures, to-end) (part-placed (a .at) 19 (closingOf (a .end) (a .refusal)) (a .text .now)))
+    ((refl, refl), simp (c .before .before .copy .ensures .1, closed .closing .ensures, to-end) (part-placed (a .at) 19 (closingOf (a .end) (a .refusal)) (a .text .now)))
 
 pub close-at-spec : {M : Type 1} → statement M
 close-at-spec =
@@ -49,6 +49,6 @@ close-at-spec =
     part-copy-start
     part-copy-end
     copy-requires
-    add-result
+    add-t9
     same-length
     returns)

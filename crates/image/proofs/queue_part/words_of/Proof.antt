@@ -15,8 +15,8 @@ Inv-loop images words₀ place₀ words place = (place ≤ 16) × (words ≡ mix
 abbrev μ-loop : tie.MeasureT-loop
 μ-loop images words₀ place₀ words place = 16 - place
 
-from-bytes-requires : tie.Need-from-bytes-requires Inv-loop μ-loop
-from-bytes-requires c κs = search needs
+word-of-requires : tie.Need-word-of-requires Inv-loop μ-loop
+word-of-requires c κs = search needs
 
 loop-holds : tie.Need-loop-holds Inv-loop μ-loop
 loop-holds c = (omega arith, refl)
@@ -27,8 +27,8 @@ mul-word-of c = search needs
 array-copy-out-word-of : tie.Need-array-copy-out-word-of Inv-loop μ-loop
 array-copy-out-word-of c = search needs
 
-word-of-requires : tie.Need-word-of-requires Inv-loop μ-loop
-word-of-requires c κs = search needs
+word-of-requires-2 : tie.Need-word-of-requires-2 Inv-loop μ-loop
+word-of-requires-2 c κs = search needs
 
 mul-words : tie.Need-mul-words Inv-loop μ-loop
 mul-words c = search needs
@@ -45,7 +45,7 @@ loop-less c = omega arith
 loop-again : tie.Need-loop-again Inv-loop μ-loop
 loop-again c =
     let run = c .before .before .before .loop in
-    (omega arith, rw (c .word-of .ensures, run .inv .1) (mixed-next wordAtImage (run .place) _ _ _ (search needs)))
+    (omega arith, rw (c .word-of2 .ensures, run .inv .1) (mixed-next wordAtImage (run .place) _ _ _ (search needs)))
 
 returns : tie.Need-returns Inv-loop μ-loop
 returns c =
@@ -58,11 +58,11 @@ words-of-spec =
     (tie.spec
     Inv-loop
     μ-loop
-    from-bytes-requires
+    word-of-requires
     loop-holds
     mul-word-of
     array-copy-out-word-of
-    word-of-requires
+    word-of-requires-2
     mul-words
     array-set-from-words
     add-place

@@ -1,0 +1,17 @@
+-- The proof of `service::quiet`.
+-- Assumes nothing.
+use borrow.Author.Needs.{needs}
+use Rattle.service.proofs.quiet.Statement.{statement}
+use Rattle.service.proofs.quiet.Tie as tie
+
+new-requires : tie.Need-new-requires
+new-requires c κs = search needs
+
+empty-requires : tie.Need-empty-requires
+empty-requires c κs = search needs
+
+returns : tie.Need-returns
+returns c = simp (c .empty .ensures, ← (c .before .new .ensures))
+
+pub quiet-spec : {M : Type 1} → statement M
+quiet-spec = tie.close (tie.spec new-requires empty-requires returns)

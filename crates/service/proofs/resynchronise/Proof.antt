@@ -1,0 +1,19 @@
+-- The proof of `service::resynchronise`: the short way and the long way leave one service.
+-- Assumes nothing.
+use mathlib.Core.Path.{sym}
+use Rattle.events.proofs.Resynchronised.{only-locks-stay}
+use borrow.Author.Needs.{needs}
+use Rattle.service.proofs.resynchronise.Statement.{statement}
+use Rattle.service.proofs.resynchronise.Tie as tie
+
+new-requires : tie.Need-new-requires
+new-requires c κs = search needs
+
+quiet-requires : tie.Need-quiet-requires
+quiet-requires c κs = search needs
+
+returns : tie.Need-returns
+returns c = simp (c .quiet .ensures, c .before .new .ensures) (sym (only-locks-stay _))
+
+pub resynchronise-spec : {M : Type 1} → statement M
+resynchronise-spec = tie.close (tie.spec new-requires quiet-requires returns)
