@@ -8,7 +8,6 @@ use borrow.Author.Tests.{ltb-false}
 use Rattle.bits.specs.Bits.{byteOf, weightOf}
 use Rattle.bits.proofs.Choice.{by-test, either}
 use Rattle.word.specs.declared.Word.{Word}
-use Rattle.word.specs.Word.{wordAt}
 use Rattle.port.specs.declared.Effect.{Effect}
 use Rattle.port.specs.declared.Effect.the-variants as effect
 use Rattle.port.specs.KeyByte.{keyByteOf}
@@ -50,7 +49,7 @@ unfolding onEffect brokenOf
 effect-in service effect.Nothing h = answered-in service _ h
 effect-in service (effect.Put word) h = offered-in service word _ _ h
 effect-in service effect.Break h =
-    answered-in _ _ (record { queue = queue-stays-in-range .put queue.emptyQueue (wordAt 0x00 0x00) (queue-stays-in-range .empty); line = h .line })
+    answered-in _ _ (record { queue = queue-stays-in-range .put queue.emptyQueue _ (queue-stays-in-range .empty); line = h .line })
 effect-in service effect.RestartAsked h = answered-in service _ h
 effect-in service effect.Overrun h = answered-in service _ h
 
@@ -109,7 +108,7 @@ call-in service function a b h =
     (either Left _ _ _ (answered-in service _ h)
     (either Left _ _ _ (answered-in service _ h)
     (either Left _ _ _ (rate-in service a b h)
-    (either Left _ _ _ (offered-in service (wordAt a b) _ _ h) (answered-in service _ h))))))
+    (either Left _ _ _ (offered-in service _ _ _ h) (answered-in service _ h))))))
 
 -- ---- every event
 
