@@ -70,10 +70,10 @@ unfolding stepIn shownToC
 step-shows image event = either (λ (changed : Changed). seen (changed .shown) ≡ shownOf (stepOf (serviceOf image) event)) _ _ _ refl refl
 
 -- the image and the number that an outcome leaves, by its answer
-abbrev leftBy : Image → Outcome → Refused
+abbrev pub leftBy : Image → Outcome → Refused
 leftBy image outcome = let changed = changedBy image outcome in record { image = changed .image; refusal = refusalIn (changed .shown .ans) }
 
-tried-by : (image : Image) (after : Service) (sent : ℕ) (answer : Answer)
+pub tried-by : (image : Image) (after : Service) (sent : ℕ) (answer : Answer)
     → leftBy image (record { service = after; answer = answer; sent = sent }) ≡ triedIn image (refusalIn (ansOf answer)) after
 unfolding shownToC triedIn if_then_else_
 tried-by image after sent answer.Nothing = refl
