@@ -1,6 +1,7 @@
 // A byte at a keyboard port: steps 2 to 9 of document 01, by value. The replies FA and FE are taken out before a byte comes here.
 ghost use mathlib.Core.Path.{_≡_};
 ghost use Rattle.port.specs.KeyByte.{codeRead, keyByteOf};
+ghost use Rattle.port_decoder.specs.Rowless.{isNoRow};
 use port::Code;
 use port::Decoded;
 use port::Effect;
@@ -12,6 +13,16 @@ use rows::Entry;
 
 mod makes;
 
+fn no_row(entry: Entry) -> bool
+    ensures { λ r. ⌜ r ≡ isNoRow entry ⌝ }
+{
+    match entry {
+        Entry::NoRow => true,
+        Entry::NoWord => false,
+        Entry::Has(_) => false,
+    }
+}
+
 // Steps 4 to 9, with the prefix closed.
 fn code_read(port: Port, shared: Shared, code: Code) -> Decoded
     ensures { λ r. ⌜ r ≡ codeRead port shared code ⌝ }
@@ -19,11 +30,10 @@ fn code_read(port: Port, shared: Shared, code: Code) -> Decoded
     let modifiers = port.modifiers;
     let locks = shared.locks;
     let entry = makes::entry_for(code, modifiers, locks);
-    match entry {
-        Entry::NoRow => port_modifiers::changed(port, shared, code),
-        Entry::NoWord => makes::made(port, shared, code, entry),
-        Entry::Has(_) => makes::made(port, shared, code, entry),
+    if no_row(entry) {
+        return port_modifiers::changed(port, shared, code);
     }
+    makes::made(port, shared, code, entry)
 }
 
 // A byte at the port, FA and FE apart.

@@ -17,6 +17,8 @@ use Rattle.state.specs.declared.Service.{Service}
 use Rattle.events.specs.declared.Event.{Event}
 use Rattle.events.specs.declared.Outcome.{Outcome}
 use Rattle.events.specs.Tags.{keyTag, callTag, pollTag, timeOutTag, emptyTag, restartTag, tagOf}
+use Rattle.events.specs.Outcomes.{answeredOf}
+use Rattle.events.specs.Functions.{callOf}
 use Rattle.events.specs.Step.{stepOf}
 use Rattle.events.specs.Run.{shownOf}
 use Rattle.report.specs.Report.{reportFrom, reportOf}
@@ -30,7 +32,7 @@ use Rattle.xiquepazo.specs.declared.by_image.Changed.{Changed}
 use Rattle.xiquepazo.specs.declared.by_image.Refused.{Refused}
 use Rattle.xiquepazo.specs.declared.by_image.Recognised.{Recognised}
 use Rattle.xiquepazo.specs.declared.by_image.Recognised.the-variants as recognised-as
-use Rattle.xiquepazo.specs.Exports.{shownWith, seen, shownToC, changedBy, stepIn, unknownIn, recognised, isUnknown, toldOf, ranOf, taggedIn, triedIn, reportedAs, writtenAs}
+use Rattle.xiquepazo.specs.Exports.{shownWith, seen, shownToC, changedBy, stepIn, unknownIn, recognised, isUnknown, ranOf, taggedIn, triedIn, reportedAs, writtenAs}
 
 -- ---- an event
 
@@ -41,7 +43,7 @@ made image ran =
     if ltb 0x7F (ran .ans) then record { image = image; shown = shown } else record { image = imageOf (ran .service); shown = shown }
 
 made-tagged : (image : Image) (event : Recognised) → made image (ranOf (serviceOf image) event) ≡ taggedIn image event
-unfolding unknownIn stepIn shownToC toldOf if_then_else_
+unfolding unknownIn stepIn shownToC stepOf callOf answeredOf if_then_else_
 made-tagged image recognised-as.Unknown = refl
 made-tagged image (recognised-as.Event event) = refl
 
@@ -68,10 +70,10 @@ unfolding stepIn shownToC
 step-shows image event = either (λ (changed : Changed). seen (changed .shown) ≡ shownOf (stepOf (serviceOf image) event)) _ _ _ refl refl
 
 -- the image and the number that an outcome leaves, by its answer
-abbrev leftBy : Image → Outcome → Refused
+abbrev pub leftBy : Image → Outcome → Refused
 leftBy image outcome = let changed = changedBy image outcome in record { image = changed .image; refusal = refusalIn (changed .shown .ans) }
 
-tried-by : (image : Image) (after : Service) (sent : ℕ) (answer : Answer)
+pub tried-by : (image : Image) (after : Service) (sent : ℕ) (answer : Answer)
     → leftBy image (record { service = after; answer = answer; sent = sent }) ≡ triedIn image (refusalIn (ansOf answer)) after
 unfolding shownToC triedIn if_then_else_
 tried-by image after sent answer.Nothing = refl

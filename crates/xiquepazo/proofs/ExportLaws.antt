@@ -1,10 +1,10 @@
--- Images follow their services, and a refusal leaves an image as it was.
+-- A refusal leaves an image as it was.
 -- Assumes nothing.
 use Prim.Native.Nat.{ℕ, _<_}
-use mathlib.Core.Path.{_≡_, refl, ap, sym, _∙_}
+use mathlib.Core.Path.{_≡_, refl, sym, _∙_}
 use mathlib.Core.Logic.{_≢_}
 use mathlib.Core.Bool.{true, true≢false}
-use mathlib.Core.List.{List, [], _∷_}
+use mathlib.Core.List.{List}
 use borrow.Author.Tests.{lt-ltb}
 use lib.Dec.{ltb}
 use lib.ListN.{length}
@@ -15,7 +15,6 @@ use Rattle.events.specs.declared.Event.{Event}
 use Rattle.events.specs.declared.Event.the-variants.{Key, Call, Poll, TimeOut, Empty, Restart}
 use Rattle.events.specs.declared.Outcome.{Outcome}
 use Rattle.state.specs.State.{makeOf}
-use Rattle.events.specs.Run.{Shown as Seen, shownOf as seenOf, next, run, after}
 use Rattle.events.specs.Step.{stepOf}
 use Rattle.report.specs.Reported.{reportLength}
 use Rattle.report.proofs.BufferLaws.{short-refused}
@@ -25,30 +24,8 @@ use Rattle.xiquepazo.specs.declared.by_image.Recognised.the-variants as 
 use Rattle.xiquepazo.specs.declared.by_image.Changed.{Changed}
 use Rattle.xiquepazo.specs.declared.by_image.Refused.{Refused}
 use Rattle.image.specs.Image.{imageOf, serviceOf}
-use Rattle.xiquepazo.specs.Exports.{seen, shownToC, stepIn, unknownIn, recognised, taggedIn, triedIn, reportedAs, writtenAs, makeTo}
-use Rattle.xiquepazo.specs.ExportLaws.{seenFrom, Follows, ImagesFollow, TagsRecognised, Leaves, UnknownRefused}
-use Rattle.xiquepazo.proofs.Events.{step-shows}
-use Rattle.events.proofs.RefusedCalls.{refused-step}
-use Rattle.events.proofs.Ranges.{stays-in-range}
-use Rattle.image.proofs.ImageLaws.{reads-in-range, comes-back}
-
-step-follows : (image : Image) (event : Event) → serviceOf (stepIn image event .image) ≡ next (serviceOf image) event
-unfolding stepIn shownToC
-step-follows image event =
-    by-test (λ (changed : Changed). serviceOf (changed .image) ≡ next (serviceOf image) event) _ _ _
-    (λ refused. sym (refused-step (serviceOf image) event refused)) (λ _. comes-back (next (serviceOf image) event) (stays-in-range .event (serviceOf image) event (reads-in-range image)))
-
-pub images-follow : ImagesFollow
-images-follow image [] = record { shown = refl; last = refl }
-images-follow image (event ∷ more) =
-    let later : Follows (stepIn image event .image) more = images-follow (stepIn image event .image) more in
-    let onward : serviceOf (stepIn image event .image) ≡ next (serviceOf image) event = step-follows image event in
-    record {
-      shown =
-          ap (λ (first : Seen). first ∷ seenFrom (stepIn image event .image) more) (step-shows image event)
-          ∙ ap (λ (rest : List Seen). seenOf (stepOf (serviceOf image) event) ∷ rest) (later .shown ∙ ap (λ (service : Service). run service more) onward);
-      last = later .last ∙ ap (λ (service : Service). after service more) onward;
-    }
+use Rattle.xiquepazo.specs.Exports.{shownToC, stepIn, unknownIn, recognised, taggedIn, triedIn, reportedAs, writtenAs, makeTo}
+use Rattle.xiquepazo.specs.ExportLaws.{TagsRecognised, Leaves, UnknownRefused}
 
 pub tags-recognised : TagsRecognised
 unfolding recognised if_then_else_

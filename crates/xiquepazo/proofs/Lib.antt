@@ -2,3 +2,4 @@ pub mod ImageTypes
 pub mod Events
 pub mod Readings
 pub mod ExportLaws
+pub mod CallLists

@@ -4,36 +4,17 @@ use Prim.Native.Nat.{ℕ, _<_}
 use mathlib.Core.Path.{_≡_}
 use mathlib.Core.Logic.{_≢_}
 use mathlib.Core.Bool.{true}
-use mathlib.Core.List.{List, [], _∷_}
+use mathlib.Core.List.{List}
 use lib.Dec.{ltb}
 use lib.ListN.{length}
 use Rattle.events.specs.declared.Event.{Event}
-use Rattle.events.specs.Run.{Shown as Seen, run, after}
 use Rattle.report.specs.Reported.{reportLength}
 use Rattle.image.specs.declared.Image.{Image}
 use Rattle.xiquepazo.specs.declared.by_image.Tagged.{Tagged}
 use Rattle.xiquepazo.specs.declared.by_image.Recognised.the-variants as recognised-as
-use Rattle.image.specs.Image.{serviceOf}
-use Rattle.xiquepazo.specs.Exports.{seen, written, stepIn, recognised, eventTo, makeTo, reportTo, writtenTo}
+use Rattle.xiquepazo.specs.Exports.{written, recognised, eventTo, makeTo, reportTo, writtenTo}
 
--- a list of events on an image that C keeps
-abbrev pub seenFrom : Image → List Event → List Seen
-seenFrom image [] = []
-seenFrom image (event ∷ more) = seen (stepIn image event .shown) ∷ seenFrom (stepIn image event .image) more
-
-abbrev pub imageAfter : Image → List Event → Image
-imageAfter image [] = image
-imageAfter image (event ∷ more) = imageAfter (stepIn image event .image) more
-
--- it shows what it shows on the service that the image means, and leaves that service's image: what is proved of services over
--- lists holds of images
-pub record Follows (image : Image) (events : List Event) : Type 0 where
-  pub shown : seenFrom image events ≡ run (serviceOf image) events
-  pub last : serviceOf (imageAfter image events) ≡ after (serviceOf image) events
-
-abbrev pub ImagesFollow : Type 0
-ImagesFollow = (image : Image) (events : List Event) → Follows image events
-
+-- every event is recognised by the tag and bytes that it is written with
 abbrev pub TagsRecognised : Type 0
 TagsRecognised = (event : Event) → recognised (written event) ≡ recognised-as.Event event
 

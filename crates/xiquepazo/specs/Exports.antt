@@ -13,6 +13,7 @@ use Rattle.events.specs.declared.Event.the-variants.{Key, Call, Poll, TimeOut, 
 use Rattle.events.specs.declared.Outcome.{Outcome}
 use Rattle.state.specs.State.{makeOf}
 use Rattle.state.specs.Flags.{byte17Of, byte18Of, byte96Of, byte97Of}
+use Rattle.answers.specs.declared.Answer.{Answer}
 use Rattle.answers.specs.Answers.{ansOf, wordOf}
 use Rattle.events.specs.Tags.{keyTag, callTag, pollTag, timeOutTag, emptyTag, restartTag, tagOf}
 use Rattle.events.specs.Run.{Shown as Seen}
@@ -95,14 +96,23 @@ abbrev pub isUnknown : Recognised → Bool
 isUnknown recognised-as.Unknown = true
 isUnknown (recognised-as.Event event) = false
 
--- an event as it ran, before what is seen of it; an unknown tag ran nothing
-unfoldable pub toldOf : Outcome → Ran
-toldOf outcome =
-    record { service = outcome .service; ans = ansOf (outcome .answer); word = wordOf (outcome .answer); sent = outcome .sent }
+-- an unknown tag runs as a call that 2 refuses, which changes nothing, and is shown as refused by 6
+abbrev pub eventIn : Recognised → Event
+eventIn recognised-as.Unknown = Call 0xFF 0 0
+eventIn (recognised-as.Event event) = event
+
+abbrev pub ansIn : Answer → Bool → ℕ
+ansIn answer unknown = if unknown then 0x86 else ansOf answer
 
 abbrev pub ranOf : Service → Recognised → Ran
-ranOf service recognised-as.Unknown = record { service = service; ans = 0x86; word = 0; sent = sentOf (service .line) }
-ranOf service (recognised-as.Event event) = toldOf (stepOf service event)
+ranOf service event =
+    let outcome = stepOf service (eventIn event) in
+    record {
+      service = outcome .service;
+      ans = ansIn (outcome .answer) (isUnknown event);
+      word = wordOf (outcome .answer);
+      sent = outcome .sent;
+    }
 
 abbrev pub taggedIn : Image → Recognised → Changed
 taggedIn image recognised-as.Unknown = unknownIn image

@@ -2,3 +2,4 @@ pub mod Exports
 pub mod Reads
 pub mod ReadLaws
 pub mod ExportLaws
+pub mod CallLists

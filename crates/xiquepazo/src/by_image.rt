@@ -1,9 +1,9 @@
 // What each exported call does, by value: the image that it leaves and what it returns. A refused call leaves every number of the image.
 ghost use mathlib.Core.Path.{_≡_};
 ghost use Rattle.report.specs.Report.{reportFrom};
-ghost use Rattle.xiquepazo.specs.Exports.{shownWith, seen, toldOf, ranOf, recognised, isUnknown, eventTo, makeTo, reportTo, writtenTo, flagsTo};
+ghost use Rattle.xiquepazo.specs.Exports.{shownWith, seen, isUnknown, eventIn, ansIn, ranOf, recognised, eventTo, makeTo, reportTo, writtenTo, flagsTo};
+use answers::Answer;
 use events::Event;
-use events::Outcome;
 use events::tags;
 use image::Image;
 use report::Report;
@@ -91,34 +91,45 @@ fn recognise(tagged: Tagged) -> Recognised
     }
 }
 
-fn told(outcome: Outcome) -> Ran
-    ensures { λ r. ⌜ r ≡ toldOf outcome ⌝ }
+fn is_unknown(event: Recognised) -> bool
+    ensures { λ r. ⌜ r ≡ isUnknown event ⌝ }
 {
-    let service = outcome.service;
-    let answer = outcome.answer;
-    Ran {
-        service,
-        ans: answers::number(answer),
-        word: answers::word(answer),
-        sent: outcome.sent,
+    match event {
+        Recognised::Unknown => true,
+        Recognised::Event(_) => false,
     }
 }
 
-// A tag that names no event is refused by 6: nothing runs, and the count is the one that stands.
+// For an unknown tag a call that is refused, since it too changes nothing: then every event takes one way through the code.
+fn event_in(event: Recognised) -> Event
+    ensures { λ r. ⌜ r ≡ eventIn event ⌝ }
+{
+    match event {
+        Recognised::Unknown => Event::Call(0xFF, 0, 0),
+        Recognised::Event(event) => event,
+    }
+}
+
+fn ans_of(answer: Answer, unknown: bool) -> u8
+    ensures { λ r. ⌜ r ≡ ansIn answer unknown ⌝ }
+{
+    if unknown {
+        return 0x86;
+    }
+    answers::number(answer)
+}
+
 fn run(service: Service, event: Recognised) -> Ran
     ensures { λ r. ⌜ r ≡ ranOf service event ⌝ }
 {
-    match event {
-        Recognised::Unknown => {
-            let line = service.line;
-            Ran {
-                service,
-                ans: 0x86,
-                word: 0,
-                sent: line::sent(line),
-            }
-        }
-        Recognised::Event(event) => told(service::step(service, event)),
+    let outcome = service::step(service, event_in(event));
+    let after = outcome.service;
+    let answer = outcome.answer;
+    Ran {
+        service: after,
+        ans: ans_of(answer, is_unknown(event)),
+        word: answers::word(answer),
+        sent: outcome.sent,
     }
 }
 
@@ -165,16 +176,6 @@ pub fn make(image: Image, bits: u8) -> Refused
     Refused { image, refusal }
 }
 
-fn is_unknown(tagged: Tagged) -> bool
-    ensures { λ r. ⌜ r ≡ isUnknown (recognised tagged) ⌝ }
-{
-    let event = recognise(tagged);
-    match event {
-        Recognised::Unknown => true,
-        Recognised::Event(_) => false,
-    }
-}
-
 fn report_of(tag: u8, shown: Shown) -> Report
     ensures { λ r. ⌜ r ≡ reportFrom tag (seen shown) ⌝ }
 {
@@ -193,7 +194,7 @@ fn report_of(tag: u8, shown: Shown) -> Report
 pub fn report(image: Image, tagged: Tagged, buffer: &mut [u8]) -> Refused
     ensures { λ r. ⌜ (r ≡ reportTo image tagged (now (buffer .entry))) × (now (buffer .exit) ≡ writtenTo image tagged (now (buffer .entry))) ⌝ }
 {
-    if is_unknown(tagged) {
+    if is_unknown(recognise(tagged)) {
         return Refused { image, refusal: 6 };
     }
     if buffer.len() < report::LENGTH {

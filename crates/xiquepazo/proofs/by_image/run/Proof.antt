@@ -4,26 +4,30 @@ use borrow.Author.Needs.{needs}
 use Rattle.xiquepazo.proofs.by_image.run.Statement.{statement}
 use Rattle.xiquepazo.proofs.by_image.run.Tie as tie
 
-enum-told : tie.Need-enum-told
-enum-told c = search needs
-
-sent-requires : tie.Need-sent-requires
-sent-requires c κs = search needs
-
-enum-known-event : tie.Need-enum-known-event
-enum-known-event c = search needs
+event-in-requires : tie.Need-event-in-requires
+event-in-requires c κs = search needs
 
 step-requires : tie.Need-step-requires
 step-requires c κs = search needs
 
-told-requires : tie.Need-told-requires
-told-requires c κs = search needs
+is-unknown-requires : tie.Need-is-unknown-requires
+is-unknown-requires c κs = search needs
+
+ans-of-requires : tie.Need-ans-of-requires
+ans-of-requires c κs = search needs
+
+word-requires : tie.Need-word-requires
+word-requires c κs = search needs
 
 returns : tie.Need-returns
-returns c = simp (c .sent .ensures, c .before .before .enum-told .given .1)
-
-returns-2 : tie.Need-returns-2
-returns-2 c = simp (c .told .ensures, c .before .step .ensures, c .before .before .before .event .given .1)
+returns c =
+    simp (
+      c .word .ensures,
+      c .before .ans-of .ensures,
+      c .before .before .is-unknown .ensures,
+      c .before .before .before .before .step .ensures,
+      c .before .before .before .before .before .event-in .ensures,
+    )
 
 pub run-spec : {M : Type 1} → statement M
-run-spec = tie.close (tie.spec enum-told sent-requires enum-known-event step-requires told-requires returns returns-2)
+run-spec = tie.close (tie.spec event-in-requires step-requires is-unknown-requires ans-of-requires word-requires returns)

@@ -1,0 +1,149 @@
+-- Images follow their services over lists of calls, so that demand 3 and the counts of sends hold of images.
+-- Assumes nothing.
+use Prim.Native.Nat.{ℕ, _≤_}
+use native.Mathlib.Omega.{arith}
+use mathlib.Core.Path.{_≡_, refl, ap, sym, _∙_}
+use mathlib.Core.Bool.{Bool, true, false}
+use mathlib.Core.List.{List, [], _∷_, _++_, map}
+use lib.Dec.{eqb}
+use borrow.Author.Tests.{eqb-true, le-ltb}
+use Rattle.bits.specs.Choice.{if_then_else_}
+use Rattle.bits.specs.Bits.{weightOf, byteOf}
+use Rattle.bits.proofs.Choice.{by-test, either}
+use Rattle.state.specs.declared.Service.{Service}
+use Rattle.state.specs.State.{newService, makeOf}
+use Rattle.state.specs.Flags.{byte17Of}
+use Rattle.events.specs.declared.Event.{Event}
+use Rattle.events.specs.declared.Outcome.{Outcome}
+use Rattle.events.specs.Step.{stepOf}
+use Rattle.events.specs.Run.{Shown, next}
+use Rattle.events.specs.Resynchronised.{standingLocks, remade}
+use Rattle.events.proofs.RefusedCalls.{refused-step}
+use Rattle.events.proofs.Ranges.{stays-in-range}
+use Rattle.events.proofs.SentCounts.{sent-is-counted}
+use Rattle.report.specs.declared.Reported.{Reported}
+use Rattle.report.specs.Report.{reportOf}
+use Rattle.report.specs.Reported.{tooShort, reportedOf}
+use Rattle.lists.specs.Items.{Item, runs, reports, Seen, stepItem, nextItem, afterItems, seenItems, shownIn}
+use Rattle.lists.proofs.ItemLaws.{items-show, events-as-items}
+use Rattle.lists.proofs.Demand3.{demand-3}
+use Rattle.image.specs.declared.Image.{Image}
+use Rattle.image.specs.Image.{imageOf, serviceOf}
+use Rattle.image.proofs.ImageLaws.{reads-in-range, comes-back}
+use Rattle.xiquepazo.specs.declared.by_image.Changed.{Changed}
+use Rattle.xiquepazo.specs.declared.by_image.Refused.{Refused}
+use Rattle.xiquepazo.specs.Exports.{shownToC, stepIn, triedIn, makeTo}
+use Rattle.xiquepazo.specs.CallLists.{Called, callOn, afterCalls, seenCalls, Follows, ImagesFollow, made, ImagesForget, ImagesCount}
+use Rattle.xiquepazo.proofs.Events.{step-shows, tried-by}
+use Rattle.xiquepazo.proofs.ExportLaws.{tags-recognised}
+
+-- ---- one call
+
+next-back : (image : Image) (event : Event) → serviceOf (imageOf (next (serviceOf image) event)) ≡ next (serviceOf image) event
+next-back image event = comes-back _ (stays-in-range .event (serviceOf image) event (reads-in-range image))
+
+step-leaves : (image : Image) (event : Event) → serviceOf (stepIn image event .image) ≡ next (serviceOf image) event
+unfolding stepIn shownToC
+step-leaves image event =
+    by-test (λ (changed : Changed). serviceOf (changed .image) ≡ next (serviceOf image) event) _ _ _
+    (λ refused. sym (refused-step (serviceOf image) event refused)) (λ _. next-back image event)
+
+-- a refused report leaves the image, any other the image of the service that it leaves
+untouched : (image : Image) → serviceOf (triedIn image 9 (serviceOf image) .image) ≡ serviceOf image
+unfolding triedIn if_then_else_
+untouched image = refl
+
+report-leaves : (image : Image) (event : Event) (buffer : List ℕ)
+    → let told = reportedOf (serviceOf image) event buffer in serviceOf (triedIn image (told .refusal) (told .service) .image) ≡ told .service
+unfolding reportedOf reportOf stepIn
+report-leaves image event buffer =
+    let outcome : Outcome = stepOf (serviceOf image) event in
+    either (λ (told : Reported). serviceOf (triedIn image (told .refusal) (told .service) .image) ≡ told .service) (tooShort buffer) _ _
+    (untouched image)
+    (ap (λ (refused : Refused). serviceOf (refused .image)) (sym (tried-by image (outcome .service) (outcome .sent) (outcome .answer))) ∙ step-leaves image event)
+
+report-refuses : (image : Image) (refusal : ℕ) (after : Service) → triedIn image refusal after .refusal ≡ refusal
+unfolding triedIn
+report-refuses image refusal after =
+    by-test (λ (tried : Refused). tried .refusal ≡ refusal) (eqb refusal 0) _ _ (λ none. sym (eqb-true refusal 0 none)) (λ _. refl)
+
+-- a call does what its item does
+record Alike (image : Image) (item : Item) (called : Called) : Type 0 where
+  leaves : serviceOf (called .image) ≡ nextItem (serviceOf image) item
+  shows : called .seen ≡ stepItem (serviceOf image) item .seen
+
+alike : (image : Image) (item : Item) → Alike image item (callOn image item)
+unfolding stepItem
+alike image (runs event) =
+    rw (tags-recognised event) (record { leaves = step-leaves image event; shows = rw (step-shows image event) })
+alike image (reports event buffer) =
+    let told = reportedOf (serviceOf image) event buffer in
+    rw (tags-recognised event)
+    (record { leaves = report-leaves image event buffer; shows = rw (report-refuses image (told .refusal) (told .service), step-shows image event) })
+
+-- ---- lists
+
+pub images-follow : ImagesFollow
+images-follow image [] = record { shown = refl; last = refl }
+images-follow image (item ∷ more) =
+    let called = callOn image item in
+    let one = alike image item in
+    let later : Follows (called .image) more = images-follow (called .image) more in
+    record {
+      shown =
+          ap (λ (first : Seen). first ∷ seenCalls (called .image) more) (one .shows)
+          ∙ ap (λ (rest : List Seen). stepItem (serviceOf image) item .seen ∷ rest) (later .shown ∙ ap (λ (s : Service). seenItems s more) (one .leaves));
+      last = later .last ∙ ap (λ (s : Service). afterItems s more) (one .leaves);
+    }
+
+-- ---- from xiquepazo_make on
+
+made-new : (image : Image) (locks : ℕ) → locks ≤ 15 → serviceOf (made image locks) ≡ newService locks
+unfolding makeOf triedIn if_then_else_
+made-new image locks most =
+    let e : makeTo image locks ≡ record { image = imageOf (newService locks); refusal = 0 } = simp (le-ltb _ _ most) in
+    ap (λ (refused : Refused). serviceOf (refused .image)) e ∙ comes-back (newService locks) (stays-in-range .new locks)
+
+weight-most : (bit : Bool) (power : ℕ) → weightOf bit power ≤ power
+unfolding weightOf if_then_else_
+weight-most true power = omega arith
+weight-most false power = omega arith
+
+byte-most : (b0 b1 b2 b3 b4 b5 b6 b7 : Bool) → byteOf b0 b1 b2 b3 b4 b5 b6 b7 ≤ 255
+unfolding byteOf
+byte-most b0 b1 b2 b3 b4 b5 b6 b7 =
+    omega
+    (arith, weight-most b0 1, weight-most b1 2, weight-most b2 4, weight-most b3 8, weight-most b4 16, weight-most b5 32, weight-most b6 64, weight-most b7 128)
+
+locks-most : (service : Service) → standingLocks service ≤ 15
+unfolding byte17Of
+locks-most service = let most : byte17Of service ≤ 255 = byte-most _ _ _ _ _ _ _ _ in omega arith
+
+module _ (image : Image) (locks : ℕ) (most : locks ≤ 15) where
+  -- the image after calls is one of the service after them
+  after-made : (items : List Item) → serviceOf (afterCalls (made image locks) items) ≡ afterItems (newService locks) items
+  after-made items = images-follow (made image locks) items .last ∙ ap (λ (s : Service). afterItems s items) (made-new image locks most)
+
+  seen-made : (items : List Item) → seenCalls (made image locks) items ≡ seenItems (newService locks) items
+  seen-made items = images-follow (made image locks) items .shown ∙ ap (λ (s : Service). seenItems s items) (made-new image locks most)
+
+pub images-forget : ImagesForget
+images-forget image other locks most first settling further ran =
+    let settled = afterCalls (made image locks) (first ++ settling) in
+    let service = afterItems (newService locks) (first ++ settling) in
+    let is : serviceOf settled ≡ service = after-made image locks most (first ++ settling) in
+    let alike : seenItems service further ≡ seenItems (remade service) further =
+    demand-3 locks most first settling further (rw (after-made image locks most first) at ran) in
+    images-follow settled further .shown
+    ∙ ap (λ (s : Service). seenItems s further) is
+    ∙ alike
+    ∙ ap (λ (s : Service). seenItems (remade s) further) (sym is)
+    ∙ sym (seen-made other (standingLocks (serviceOf settled)) (locks-most (serviceOf settled)) further)
+
+pub images-count : ImagesCount
+images-count image locks most items events ran =
+    let start = newService locks in
+    let sents : List Seen → List ℕ = λ seen. map (λ (s : Shown). s .sent) (shownIn seen) in
+    ap sents (seen-made image locks most items)
+    ∙ ap (map (λ (s : Shown). s .sent)) (items-show start items ∙ ap (λ (done : List Item). shownIn (seenItems start done)) ran ∙ events-as-items start events .shows)
+    ∙ sent-is-counted locks events
