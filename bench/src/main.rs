@@ -4,8 +4,10 @@
 //! `speed KBDTRACE REFERENCE_TRACE` prints both parts. The two sides take turns, so that what else
 //! the machine does meets both alike, and each must give the same as the other before it is
 //! measured. The library is called as any program calls it, so nothing of it is inlined; the
-//! reference is compiled into this program.
+//! reference is compiled into this program. `speed rounds ROW SIDE COUNT` only runs rounds of one
+//! row, for callgrind to count.
 
+mod instructions;
 mod programs;
 mod rounds;
 mod services;
@@ -14,18 +16,27 @@ use std::env;
 use std::process::ExitCode;
 
 fn main() -> ExitCode {
-    let arguments: Vec<_> = env::args_os().skip(1).collect();
-    let [proved, reference] = &arguments[..] else {
-        eprintln!("usage: speed KBDTRACE REFERENCE_TRACE");
-        return ExitCode::from(2);
-    };
-    println!("ratio: proved time over reference time; below 1, the proved side is faster");
-    services::measure();
-    match programs::measure(proved, reference) {
-        Ok(()) => ExitCode::SUCCESS,
-        Err(error) => {
-            eprintln!("a program was not run: {error}");
-            ExitCode::FAILURE
+    let arguments: Vec<_> = env::args_os().collect();
+    match &arguments[..] {
+        [_, rounds, row, side, count] if rounds == "rounds" => {
+            let number = |word: &std::ffi::OsString| word.to_string_lossy().parse().unwrap_or(0);
+            services::run_rounds(number(row), &side.to_string_lossy(), number(count));
+            ExitCode::SUCCESS
+        }
+        [program, proved, reference] => {
+            println!("ratio: proved time over reference time; below 1, the proved side is faster");
+            services::measure(program);
+            match programs::measure(proved, reference) {
+                Ok(()) => ExitCode::SUCCESS,
+                Err(error) => {
+                    eprintln!("a program was not run: {error}");
+                    ExitCode::FAILURE
+                }
+            }
+        }
+        _ => {
+            eprintln!("usage: speed KBDTRACE REFERENCE_TRACE");
+            ExitCode::from(2)
         }
     }
 }

@@ -1,6 +1,7 @@
 //! The time of a whole process on a pack: kbdtrace, and the reference's program. An exported call cannot take a service by value, so the
 //! speed by value is what kbdtrace shows: the time of a pack full of events less that of an empty one.
 
+use crate::instructions::{count, shown};
 use crate::rounds::take_turns;
 use reference::generator::{random_events, Flavour, Random, Writer};
 use reference::{trace, MAXIMUM_PACK};
@@ -19,7 +20,7 @@ pub fn measure(proved: &OsStr, reference: &OsStr) -> io::Result<()> {
         "\nPrograms: kbdtrace and reference-trace from start to end, the text thrown away; \
          medians of {RUNS} runs"
     );
-    println!("  pack                                    proved ms   reference ms   ratio");
+    println!("  pack                                    proved ms   reference ms   ratio   million instructions: proved   reference");
     let mut measured = Vec::new();
     for (name, pack) in packs() {
         let file = PackFile::new(&pack)?;
@@ -32,11 +33,17 @@ pub fn measure(proved: &OsStr, reference: &OsStr) -> io::Result<()> {
             || run(proved, &file).expect("it ran before"),
             || run(reference, &file).expect("it ran before"),
         );
+        let instructions = |program| -> io::Result<String> {
+            let counted = count(program, &[], file.open()?.into());
+            Ok(shown(counted.map(|counted| counted as f64 / 1e6)))
+        };
         println!(
-            "  {name:38} {:>10.3} {:>14.3} {:>7.2}",
+            "  {name:38} {:>10.3} {:>14.3} {:>7.2} {:>30} {:>11}",
             medians.proved.as_secs_f64() * 1e3,
             medians.reference.as_secs_f64() * 1e3,
-            medians.ratio()
+            medians.ratio(),
+            instructions(proved)?,
+            instructions(reference)?,
         );
         measured.push(medians);
     }

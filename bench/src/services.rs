@@ -1,34 +1,131 @@
-//! Events a second: the library's calls, and the reference's on the same list.
+//! Events a second and instructions an event: the library's calls, and the reference's on the same list.
 
+use crate::instructions::{count, shown};
 use crate::rounds::take_turns;
 use differential::Image;
 use reference::generator::{random_events, Random, FLAVOURS};
 use reference::{Event, Outcome, Service, REPORT_LENGTH};
+use std::ffi::{OsStr, OsString};
 use std::hint::black_box;
+use std::process::Stdio;
 use std::time::Duration;
 
 const ROUNDS: usize = 25;
-const EVENTS_OF_EACH_FLAVOUR: usize = 100_000;
+const EVENTS: usize = 400_000;
+/// Fewer events are enough to count instructions, which takes long.
+const COUNTED_EVENTS: usize = 40_000;
 
-pub fn measure() {
-    let events = events();
-    println!(
-        "\nServices: one new service and {} random events, as many of each flavour; \
-         medians of {ROUNDS} rounds",
-        events.len()
-    );
-    println!("  call            proved M/s   reference M/s   ratio");
-    print_row("event", &events, by_event, Service::event);
-    print_row("report", &events, report_proved, report_reference);
+/// One call on a list of events, as both sides have it.
+struct Row {
+    name: &'static str,
+    events: fn(usize) -> Vec<Event>,
+    agree: fn(&[Event]) -> bool,
+    proved: fn(&[Event]),
+    reference: fn(&[Event]),
 }
 
-fn events() -> Vec<Event> {
+const ROWS: [Row; 3] = [
+    Row {
+        name: "event",
+        events: of_every_flavour,
+        agree: |events| agree(events, event_proved, Service::event),
+        proved: |events| run_proved(events, event_proved),
+        reference: |events| run_reference(events, Service::event),
+    },
+    Row {
+        name: "report",
+        events: of_every_flavour,
+        agree: |events| agree(events, report_proved, report_reference),
+        proved: |events| run_proved(events, report_proved),
+        reference: |events| run_reference(events, report_reference),
+    },
+    Row {
+        name: "event, panel",
+        events: of_a_panel,
+        agree: |events| agree(events, event_proved, Service::event),
+        proved: |events| run_proved(events, event_proved),
+        reference: |events| run_reference(events, Service::event),
+    },
+];
+
+/// `program` is this program: it counts its own instructions by running rounds of a row under callgrind.
+pub fn measure(program: &OsStr) {
+    println!(
+        "\nServices: one new service and {EVENTS} random events, as many of each flavour, or for a panel \
+         keyboard bytes with functions 01 and 00 at every eighth; medians of {ROUNDS} rounds"
+    );
+    println!("  call             proved M/s   reference M/s   ratio   instructions an event: proved   reference");
+    for (number, row) in ROWS.iter().enumerate() {
+        let events = (row.events)(EVENTS);
+        assert!((row.agree)(&events), "both sides show the same");
+        let medians = take_turns(
+            ROUNDS,
+            || (row.proved)(&events),
+            || (row.reference)(&events),
+        );
+        let millions = |time: Duration| events.len() as f64 / time.as_secs_f64() / 1e6;
+        println!(
+            "  {:15} {:>11.1} {:>15.1} {:>7.2} {:>31} {:>11}",
+            row.name,
+            millions(medians.proved),
+            millions(medians.reference),
+            medians.ratio(),
+            shown(instructions(program, number, "proved")),
+            shown(instructions(program, number, "reference")),
+        );
+    }
+}
+
+/// Instructions an event: what a second round adds.
+fn instructions(program: &OsStr, row: usize, side: &str) -> Option<f64> {
+    let counted = |rounds: usize| {
+        let words = [
+            "rounds".into(),
+            row.to_string(),
+            side.into(),
+            rounds.to_string(),
+        ];
+        count(program, &words.map(OsString::from), Stdio::null())
+    };
+    let events = (ROWS[row].events)(COUNTED_EVENTS).len();
+    Some((counted(2)? - counted(1)?) as f64 / events as f64)
+}
+
+/// Runs rounds of a row on one side, and nothing else: what callgrind counts.
+pub fn run_rounds(row: usize, side: &str, rounds: usize) {
+    let row = &ROWS[row];
+    let run = if side == "proved" {
+        row.proved
+    } else {
+        row.reference
+    };
+    let events = (row.events)(COUNTED_EVENTS);
+    for _ in 0..rounds {
+        run(&events);
+    }
+}
+
+fn of_every_flavour(count: usize) -> Vec<Event> {
     let mut random = Random::new(7);
-    let of_flavour = |flavour| random_events(&mut random, flavour, EVENTS_OF_EACH_FLAVOUR);
+    let of_flavour = |flavour| random_events(&mut random, flavour, count / FLAVOURS.len());
     FLAVOURS.into_iter().flat_map(of_flavour).collect()
 }
 
-fn by_event(image: &mut Image, event: &Event) -> Outcome {
+/// What a panel does: bytes come from the keyboard, and now and then a program looks for a word and takes it.
+fn of_a_panel(count: usize) -> Vec<Event> {
+    let mut random = Random::new(8);
+    let mut events = Vec::new();
+    for number in 0..count {
+        if number % 8 == 0 {
+            events.push(Event::Call(0x01, 0, 0));
+            events.push(Event::Call(0x00, 0, 0));
+        }
+        events.push(Event::Key(random.byte()));
+    }
+    events
+}
+
+fn event_proved(image: &mut Image, event: &Event) -> Outcome {
     image.event(event)
 }
 
@@ -45,36 +142,31 @@ fn report_reference(service: &mut Service, event: &Event) -> [u8; REPORT_LENGTH]
     buffer
 }
 
-/// Millions of events a second on both sides, once each event has shown the same on both.
-fn print_row<Shown: PartialEq>(
-    name: &str,
+fn new_image() -> Image {
+    Image::new(0).expect("no lock is on")
+}
+
+fn agree<Shown: PartialEq>(
     events: &[Event],
     proved: impl Fn(&mut Image, &Event) -> Shown,
     reference: impl Fn(&mut Service, &Event) -> Shown,
-) {
-    let new_image = || Image::new(0).expect("no lock is on");
+) -> bool {
     let (mut image, mut service) = (new_image(), Service::unlocked());
-    let same = |event| proved(&mut image, event) == reference(&mut service, event);
-    assert!(events.iter().all(same), "both sides show the same");
+    events
+        .iter()
+        .all(|event| proved(&mut image, event) == reference(&mut service, event))
+}
 
-    let run_proved = || {
-        let mut image = new_image();
-        for event in events {
-            black_box(proved(&mut image, black_box(event)));
-        }
-    };
-    let run_reference = || {
-        let mut service = Service::unlocked();
-        for event in events {
-            black_box(reference(&mut service, black_box(event)));
-        }
-    };
-    let medians = take_turns(ROUNDS, run_proved, run_reference);
-    let millions = |time: Duration| events.len() as f64 / time.as_secs_f64() / 1e6;
-    println!(
-        "  {name:14} {:>11.1} {:>15.1} {:>7.2}",
-        millions(medians.proved),
-        millions(medians.reference),
-        medians.ratio()
-    );
+fn run_proved<Shown>(events: &[Event], call: impl Fn(&mut Image, &Event) -> Shown) {
+    let mut image = new_image();
+    for event in events {
+        black_box(call(&mut image, black_box(event)));
+    }
+}
+
+fn run_reference<Shown>(events: &[Event], call: impl Fn(&mut Service, &Event) -> Shown) {
+    let mut service = Service::unlocked();
+    for event in events {
+        black_box(call(&mut service, black_box(event)));
+    }
 }

@@ -94,7 +94,7 @@ from-next pack start event bytes e =
 agrees : (pack : List ℕ) (start : ℕ) (part : List ℕ) → PartFrom pack start part → readAt pack start ≡ firstOf part
 agrees pack start part from = rw (from .same) (read-within pack start (from .limited) (omega arith))
 
--- an event is read only of a pack within the limit
+-- no event is read of a pack that is too long
 limited : (pack : List ℕ) (start : ℕ) (event : Event) (bytes : ℕ) → readAt pack start ≡ read.Event event bytes → length pack ≤ limit
 limited pack start event bytes e =
     by-order limit (length pack) (λ long. absurd (subst Stops (sym (read-too-long pack start long) ∙ e) tt)) (λ small. small)

@@ -108,10 +108,10 @@ pub fn read_event(pack: &[u8], start: usize) -> Read
 pub fn part_at(pack: &[u8], start: usize) -> &[u8]
     ensures { λ r. ⌜ now r ≡ partAt (now (pack .entry)) start ⌝ }
 {
-    if LIMIT < pack.len() {
+    if pack.len() > LIMIT {
         return &pack[..0];
     }
-    if pack.len() < start {
+    if start > pack.len() {
         return &pack[..0];
     }
     &pack[start..]

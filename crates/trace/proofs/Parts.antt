@@ -1,4 +1,4 @@
--- The parts one behind the other are the trace, they are few, and a loop over them ends.
+-- The laws of the parts, and a count that falls from part to part.
 -- Assumes nothing.
 use Prim.Native.Nat.{ℕ, zero, suc, _+_, _-_, _*_, _<_, _≤_}
 use native.Mathlib.Omega.{arith}
@@ -127,7 +127,7 @@ parts-are-trace pack =
       few = few partsMost pack firstPlace (omega arith) (omega arith);
     }
 
--- what a loop over the parts counts down
+-- bounds the bytes that are unread at a place; 0 once printing has ended
 unfoldable pub unread : Place → ℕ
 unread place = if place .ended then 0 else suc (limit - place .offset)
 

@@ -87,7 +87,7 @@ unfoldable pub partsBy : ℕ → List ℕ → Place → Lines
 partsBy zero pack place = noneAt place
 partsBy (suc parts) pack place = textThen (linesOf pack place .text) (partsBy parts pack (linesOf pack place .place))
 
--- what is still to be printed
+-- the text from a place to the end
 unfoldable pub leftOf : List ℕ → Place → List ℕ
 leftOf pack place = if place .ended then [] else printedOf (place .service) (parseFrom pack (place .offset))
 

@@ -24,14 +24,14 @@ const CLOSING: usize = 19;
 // The closing lines, with a point for each character that is filled in.
 const BLANK: [u8; CLOSING] = *b"end=....\nrefused=.\n";
 
-// Where printing stands: the offset of the next event and the service that it finds. Once the closing lines are printed it has ended.
+// A place in the text of a pack: before the report of the event at this offset, which this service will run; or, ended, behind the closing lines.
 pub struct Place {
     pub service: Service,
     pub offset: u16,
     pub ended: bool,
 }
 
-// A part that was printed: how long it is, and the place where the next one goes on.
+// What a call printed, counted in bytes, and the place that it leaves for the next call.
 pub struct Part {
     pub place: Place,
     pub length: usize,
@@ -91,7 +91,7 @@ fn place_at(service: Service, offset: u16) -> Place
     }
 }
 
-// Nothing is printed yet. kbdtrace runs a service made with lock bits 0.
+// The place before the first byte of a pack, with the service that kbdtrace starts from: lock bits 0.
 pub fn begin() -> Place
     ensures { λ r. ⌜ r ≡ firstPlace ⌝ }
 {
@@ -107,7 +107,7 @@ fn refusal_at(pack: &[u8], offset: u16) -> u8
     pack::refusal(read)
 }
 
-// The next part of the text of a pack, written to the start of `text`; what stands behind it stays.
+// Writes the next part of a pack's text to the start of `text`, and leaves the bytes behind it as they were.
 pub fn next_part(pack: &[u8], place: Place, text: &mut [u8; PART]) -> Part
     ensures { λ r. ⌜ r ≡ partOf (now (pack .entry)) place ⌝ }
     ensures { λ _. ⌜ now (text .exit) ≡ partIn (now (pack .entry)) place (now (text .entry)) ⌝ }

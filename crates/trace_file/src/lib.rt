@@ -65,6 +65,7 @@ fn read_pack(file: i32, pack: &mut [u8]) -> Got
     Got { length, failed }
 }
 
+// Nothing is written before the pack is read to its end, so that a failed read leaves standard output empty.
 pub fn write_trace(file: i32) -> Traced {
     let mut pack = input();
     let got = read_pack(file, &mut pack);

@@ -1,4 +1,4 @@
--- The proof of `trace_file::write_trace`. The loop goes on while something of the pack is unread.
+-- The proof of `trace_file::write_trace`. Each part leaves less of the pack unread, so the loop ends.
 -- Assumes nothing.
 use Prim.Native.Nat.{_≤_}
 use mathlib.Core.Path.{sym}
