@@ -13,9 +13,12 @@
  *   3  typematic delay above 3                  the calling program
  *   4  typematic rate above 31, after 3         the calling program
  *   5  function 05 on a full queue              the calling program
- *   6  a tag that names no event                the calling program
+ *   6  a tag that names no event                the calling program; in a pack, its writer
+ *   7  an event cut short by the pack's end     the writer of the pack
+ *   8  a pack over 32,768 bytes                 the writer of the pack
  *   9  report buffer under 44 bytes             the calling program
- * 6 and 9 run no event and leave the buffer as it was. An event that 2 to 5 refuse has its report written.
+ *  10  a start beyond the pack's length         the reader of the pack
+ * 6 and 9 run no event and leave the buffer as it was. An event that 2 to 5 refuse has its report written. A pack is only read.
  */
 #ifndef XIQUEPAZO_H
 #define XIQUEPAZO_H
@@ -64,8 +67,8 @@ struct xiquepazo_locks {
 };
 
 struct xiquepazo_shared {
-    uint8_t paused; /* flag */
     struct xiquepazo_locks locks;
+    uint8_t paused; /* flag */
 };
 
 struct xiquepazo_held {
@@ -146,8 +149,8 @@ struct xiquepazo_service {
 #define XIQUEPAZO_AT(member, place) (offsetof(struct xiquepazo_service, member) == (place))
 typedef char xiquepazo_service_is_80_bytes[sizeof(struct xiquepazo_service) == 80 ? 1 : -1];
 typedef char xiquepazo_shared_stands_first
-    [XIQUEPAZO_AT(shared.paused, 0) && XIQUEPAZO_AT(shared.locks.scroll, 1) && XIQUEPAZO_AT(shared.locks.num, 2)
-             && XIQUEPAZO_AT(shared.locks.caps, 3) && XIQUEPAZO_AT(shared.locks.insert, 4)
+    [XIQUEPAZO_AT(shared.locks.scroll, 0) && XIQUEPAZO_AT(shared.locks.num, 1) && XIQUEPAZO_AT(shared.locks.caps, 2)
+             && XIQUEPAZO_AT(shared.locks.insert, 3) && XIQUEPAZO_AT(shared.paused, 4)
          ? 1
          : -1];
 typedef char xiquepazo_port_stands_at_5
@@ -208,18 +211,6 @@ struct xiquepazo_flag_bytes {
 /* Makes a new service with the lock bits (bit 0 Scroll, 1 Num, 2 Caps, 3 Insert). Returns 0, or refusal 1 for bits above 15. */
 uint8_t xiquepazo_make(struct xiquepazo_service *service, uint8_t bits);
 
-/* A byte from the keyboard: scan codes, and the replies FA and FE to what was sent. Never refused. */
-struct xiquepazo_shown xiquepazo_key(struct xiquepazo_service *service, uint8_t byte);
-
-/*
- * Int 16h. 00, 10: the oldest word, removed. 01, 11: the oldest word, left. 02: status, byte 17. 12: extended status. 03: delay a, rate b.
- * 05: put word a b. Refusals 2 to 5, as ans 82 to 85.
- */
-struct xiquepazo_shown xiquepazo_call(struct xiquepazo_service *service, uint8_t function, uint8_t a, uint8_t b);
-
-/* Asks for a byte to send: with XIQUEPAZO_SEND it is the low byte of `word`, and its reply is awaited. Never refused. */
-struct xiquepazo_shown xiquepazo_poll(struct xiquepazo_service *service);
-
 /* Any event. Refusals 2 to 5, and 6 for an unknown tag, as ans 82 to 86. */
 struct xiquepazo_shown xiquepazo_event(struct xiquepazo_service *service, struct xiquepazo_tagged event);
 
@@ -232,33 +223,67 @@ uint8_t xiquepazo_report(struct xiquepazo_service *service, struct xiquepazo_tag
 /* The flag bytes as they stand. */
 struct xiquepazo_flag_bytes xiquepazo_flags(const struct xiquepazo_service *service);
 
-/* The events that have only a tag. */
-static inline struct xiquepazo_shown xiquepazo_tag(struct xiquepazo_service *service, char tag)
+/* What stands at a start in a pack. */
+struct xiquepazo_reading {
+    size_t next;                   /* where the next event begins; the start itself where none was read */
+    struct xiquepazo_tagged event; /* tag 0 where none was read */
+    uint8_t refusal;               /* 0 for an event and for the end of the pack, else 6, 7, 8 or 10 */
+};
+
+/*
+ * Reads the event at `start` in a pack of `length` bytes: from 0 on, each time from `next`, as long as the tag is not 0. 8 comes before 10.
+ * Nothing is run: hand the event to xiquepazo_event or xiquepazo_report.
+ */
+struct xiquepazo_reading xiquepazo_read(const uint8_t *pack, size_t length, size_t start);
+
+/* The calls for one kind of event each. */
+static inline struct xiquepazo_shown xiquepazo_tag(struct xiquepazo_service *service, char tag, uint8_t a, uint8_t b, uint8_t c)
 {
     struct xiquepazo_tagged event;
     event.tag = (uint8_t)tag;
-    event.a = 0;
-    event.b = 0;
-    event.c = 0;
+    event.a = a;
+    event.b = b;
+    event.c = c;
     return xiquepazo_event(service, event);
+}
+
+/* A byte from the keyboard: scan codes, and the replies FA and FE to what was sent. Never refused. */
+static inline struct xiquepazo_shown xiquepazo_key(struct xiquepazo_service *service, uint8_t byte)
+{
+    return xiquepazo_tag(service, 'K', byte, 0, 0);
+}
+
+/*
+ * Int 16h. 00, 10: the oldest word, removed. 01, 11: the oldest word, left. 02: status, byte 17. 12: extended status. 03: delay a, rate b.
+ * 05: put word a b. Refusals 2 to 5, as ans 82 to 85.
+ */
+static inline struct xiquepazo_shown xiquepazo_call(struct xiquepazo_service *service, uint8_t function, uint8_t a, uint8_t b)
+{
+    return xiquepazo_tag(service, 'C', function, a, b);
+}
+
+/* Asks for a byte to send: with XIQUEPAZO_SEND it is the low byte of `word`, and its reply is awaited. Never refused. */
+static inline struct xiquepazo_shown xiquepazo_poll(struct xiquepazo_service *service)
+{
+    return xiquepazo_tag(service, 'P', 0, 0, 0);
 }
 
 /* No reply came in time. */
 static inline struct xiquepazo_shown xiquepazo_time_out(struct xiquepazo_service *service)
 {
-    return xiquepazo_tag(service, 'T');
+    return xiquepazo_tag(service, 'T', 0, 0, 0);
 }
 
 /* Empties the queue. */
 static inline struct xiquepazo_shown xiquepazo_empty(struct xiquepazo_service *service)
 {
-    return xiquepazo_tag(service, 'E');
+    return xiquepazo_tag(service, 'E', 0, 0, 0);
 }
 
 /* Restarts the line: idle, byte 97 zero, no rate waits, no LED value handled. */
 static inline struct xiquepazo_shown xiquepazo_restart(struct xiquepazo_service *service)
 {
-    return xiquepazo_tag(service, 'R');
+    return xiquepazo_tag(service, 'R', 0, 0, 0);
 }
 
 #ifdef __cplusplus

@@ -50,8 +50,8 @@ pub struct LocksImage {
 
 #[repr(C)]
 pub struct SharedImage {
-    pub paused: u8,
     pub locks: LocksImage,
+    pub paused: u8,
 }
 
 #[repr(C)]

@@ -51,8 +51,8 @@ pub struct Locks {
 
 // What all ports share.
 pub struct Shared {
-    pub paused: bool,
     pub locks: Locks,
+    pub paused: bool,
 }
 
 // What a byte asks of the service.

@@ -7,11 +7,11 @@ pub const IMAGE_LENGTH: usize = 80;
 
 /// Where each number of a service stands in those bytes, as the header says.
 pub mod place {
-    pub const PAUSED: usize = 0;
-    pub const SCROLL_LOCK: usize = 1;
-    pub const NUM_LOCK: usize = 2;
-    pub const CAPS_LOCK: usize = 3;
-    pub const INSERT: usize = 4;
+    pub const SCROLL_LOCK: usize = 0;
+    pub const NUM_LOCK: usize = 1;
+    pub const CAPS_LOCK: usize = 2;
+    pub const INSERT: usize = 3;
+    pub const PAUSED: usize = 4;
     pub const SCROLL_HELD: usize = 5;
     pub const NUM_HELD: usize = 6;
     pub const CAPS_HELD: usize = 7;
@@ -80,6 +80,7 @@ extern "C" {
     fn xiquepazo_event(image: &mut Image, event: Tagged) -> Shown;
     fn xiquepazo_report(image: &mut Image, event: Tagged, buffer: *mut u8, length: usize) -> u8;
     fn xiquepazo_flags(image: &Image) -> FlagBytes;
+    fn xiquepazo_read(pack: *const u8, length: usize, start: usize) -> Reading;
 }
 
 // Each call is sound for every argument: the library has no `requires`, every image is a service,
@@ -123,6 +124,20 @@ impl Image {
     pub fn flag_bytes(&self) -> [u8; 4] {
         unsafe { xiquepazo_flags(self) }.bytes
     }
+}
+
+/// What stands at a start in a pack: the next start, the event, tag 0 for none, and the refusal.
+#[repr(C)]
+#[derive(Clone, Copy, Debug, PartialEq, Eq)]
+pub struct Reading {
+    pub next: usize,
+    pub event: Tagged,
+    pub refusal: u8,
+}
+
+/// Reads one event of a pack.
+pub fn read(pack: &[u8], start: usize) -> Reading {
+    unsafe { xiquepazo_read(pack.as_ptr(), pack.len(), start) }
 }
 
 impl From<&Event> for Tagged {
