@@ -8,6 +8,7 @@ use lib.Dec.{T, eqb}
 use lib.ListN.{drop}
 use Rattle.bits.specs.Choice.{if_then_else_}
 use Rattle.bits.proofs.Tests.{and-left, and-right}
+use Rattle.bits.proofs.Bytes.{upper-half}
 use Rattle.port.specs.declared.Prefix.{Prefix}
 use Rattle.port.specs.declared.Prefix.the-variants.{Closed, E0, E1, E1Make, E1Break}
 use Rattle.port.specs.declared.Port.{Port}
@@ -15,7 +16,7 @@ use Rattle.port.specs.declared.Shared.{Shared}
 use Rattle.port.specs.declared.Locks.{Locks}
 use Rattle.port.specs.declared.Effect.{Effect}
 use Rattle.port.specs.declared.Effect.the-variants as effect
-use Rattle.port.specs.State.{newPort, withPrefix}
+use Rattle.port.specs.State.{eitherSide, newPort, withPrefix}
 use Rattle.port.specs.KeyByte.{keyByteOf}
 use Rattle.queue.specs.Queue.{emptyQueue}
 use Rattle.line.specs.State.{newLine}
@@ -24,12 +25,13 @@ use Rattle.events.specs.declared.Event.{Event}
 use Rattle.events.specs.declared.Event.the-variants.{Key, Empty, Restart}
 use Rattle.events.specs.declared.Outcome.{Outcome}
 use Rattle.state.specs.State.{withLocks, withPort, withQueue, withLine}
+use Rattle.state.specs.Flags.{byte17Of}
 use Rattle.events.specs.Keyboard.{brokenOf, onEffect, typedOf, keyOf}
 use Rattle.events.specs.Outcomes.{answeredOf, offeredOf}
 use Rattle.events.specs.Step.{emptyOf, stepOf}
 use Rattle.events.specs.Commands.{restartOf}
 use Rattle.events.specs.Run.{next, after}
-use Rattle.events.specs.Resynchronised.{allUpRun, resynchronisation, remade, OnlyLocksStay, Resynchronises}
+use Rattle.events.specs.Resynchronised.{allUpRun, resynchronisation, standingLocks, remade, OnlyLocksStay, Resynchronises, LocksStand}
 use Rattle.events.proofs.Model.{model}
 use Rattle.events.proofs.Lists.{after-append}
 
@@ -189,3 +191,11 @@ pub resynchronises : Resynchronises
 resynchronises service =
     let e = only-locks-stay service in
     e ∙ sym (ap remade e ∙ standing (service .shared .locks))
+
+pub locks-stand : LocksStand
+unfolding byte17Of
+locks-stand service =
+    let m = service .port .modifiers in
+    let l = service .shared .locks in
+    ap standingLocks (only-locks-stay service)
+    ∙ sym (upper-half (m .shift .right) (m .shift .left) (eitherSide (m .ctrl)) (eitherSide (m .alt)) (l .scroll) (l .num) (l .caps) (l .insert))

@@ -31,6 +31,10 @@ remade service = newService (standingLocks service)
 abbrev pub OnlyLocksStay : Type 0
 OnlyLocksStay = (service : Service) → after service resynchronisation ≡ withLocks (service .shared .locks)
 
--- so that what they leave is a service newly made
+-- so that what they leave is a service newly made, with the lock bits that stand then
 abbrev pub Resynchronises : Type 0
 Resynchronises = (service : Service) → let settled = after service resynchronisation in settled ≡ remade settled
+
+-- and these are the bits that stood before
+abbrev pub LocksStand : Type 0
+LocksStand = (service : Service) → standingLocks (after service resynchronisation) ≡ standingLocks service

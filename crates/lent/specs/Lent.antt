@@ -10,6 +10,9 @@ use Rattle.events.specs.declared.Outcome.{Outcome}
 use Rattle.state.specs.declared.Made.{Made}
 use Rattle.state.specs.State.{makeOf}
 use Rattle.events.specs.Step.{stepOf}
+use Rattle.events.specs.Run.{after}
+use Rattle.events.specs.Resynchronised.{resynchronisation}
+use Rattle.answers.specs.declared.Answer.the-variants.{Done}
 use Rattle.report.specs.declared.Reported.{Reported}
 use Rattle.report.specs.Reported.{reportedOf}
 use Rattle.lent.specs.declared.Answered.{Answered}
@@ -40,3 +43,7 @@ tellsOf reported = record { service = reported .service; refusal = reported .ref
 -- 9 leaves the service as it was, and so do 2 to 5
 unfoldable pub reportedIn : Service → Event → List ℕ → Tried
 reportedIn service event buffer = tellsOf (reportedOf service event buffer)
+
+-- the service after the all-up run, E and R, with what this R answers
+unfoldable pub resynchronisedIn : Service → Stepped
+resynchronisedIn service = record { service = after service resynchronisation; answered = record { answer = Done; sent = 0 } }

@@ -1,10 +1,11 @@
 // What each lent call does, by value: the service that it leaves and what it returns.
 ghost use mathlib.Core.Path.{_≡_};
 ghost use Rattle.report.specs.Reported.{bufferOf};
-ghost use Rattle.lent.specs.Lent.{madeIn, steppedOf, eventIn, reportedIn};
+ghost use Rattle.lent.specs.Lent.{madeIn, resynchronisedIn, steppedOf, eventIn, reportedIn};
 use crate::Answered;
 use crate::Stepped;
 use crate::Tried;
+use answers::Answer;
 use events::Event;
 use events::Outcome;
 use state::Service;
@@ -53,5 +54,18 @@ pub fn report(service: Service, event: Event, buffer: &mut [u8]) -> Tried
     Tried {
         service: after,
         refusal: reported.refusal,
+    }
+}
+
+pub fn resynchronise(service: Service) -> Stepped
+    ensures { λ r. ⌜ r ≡ resynchronisedIn service ⌝ }
+{
+    let settled = service::resynchronise(service);
+    Stepped {
+        service: settled,
+        answered: Answered {
+            answer: Answer::Done,
+            sent: 0,
+        },
     }
 }

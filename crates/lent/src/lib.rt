@@ -1,7 +1,7 @@
 // The service lent and changed in place: thin calls over the calls by value.
 ghost use mathlib.Core.Path.{_≡_};
 ghost use Rattle.report.specs.Reported.{bufferOf};
-ghost use Rattle.lent.specs.Lent.{madeIn, eventIn, reportedIn};
+ghost use Rattle.lent.specs.Lent.{madeIn, eventIn, reportedIn, resynchronisedIn};
 use answers::Answer;
 use events::Event;
 use state::Service;
@@ -55,6 +55,16 @@ pub fn report(service: &mut Service, event: Event, buffer: &mut [u8]) -> u8
     let tried = by_value::report(*service, event, buffer);
     *service = tried.service;
     tried.refusal
+}
+
+// As if the all-up run, E and R were fed; answered as this R is.
+pub fn resynchronise(service: &mut Service) -> Answered
+    ensures { λ r. ⌜ (now (service .exit) ≡ resynchronisedIn (now (service .entry)) .service)
+        × (r ≡ resynchronisedIn (now (service .entry)) .answered) ⌝ }
+{
+    let stepped = by_value::resynchronise(*service);
+    *service = stepped.service;
+    stepped.answered
 }
 
 // For whoever holds the service by value: a copy of it is lent, and handed back as the call left it.

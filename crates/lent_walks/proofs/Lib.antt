@@ -1,4 +1,5 @@
 pub mod Plain
+pub mod LentAlone
 pub mod LentWithOne
 pub mod LentWithBuffer
 pub mod LentCopy

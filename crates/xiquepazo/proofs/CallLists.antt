@@ -3,13 +3,12 @@
 use Prim.Native.Nat.{ℕ, _≤_}
 use native.Mathlib.Omega.{arith}
 use mathlib.Core.Path.{_≡_, refl, ap, sym, _∙_}
-use mathlib.Core.Bool.{Bool, true, false}
 use mathlib.Core.List.{List, [], _∷_, _++_, map}
 use lib.Dec.{eqb}
 use borrow.Author.Tests.{eqb-true, le-ltb}
 use Rattle.bits.specs.Choice.{if_then_else_}
-use Rattle.bits.specs.Bits.{weightOf, byteOf}
 use Rattle.bits.proofs.Choice.{by-test, either}
+use Rattle.bits.proofs.Bytes.{byte-most}
 use Rattle.state.specs.declared.Service.{Service}
 use Rattle.state.specs.State.{newService, makeOf}
 use Rattle.state.specs.Flags.{byte17Of}
@@ -98,24 +97,19 @@ images-follow image (item ∷ more) =
 
 -- ---- from xiquepazo_make on
 
-made-new : (image : Image) (locks : ℕ) → locks ≤ 15 → serviceOf (made image locks) ≡ newService locks
+pub made-image : (image : Image) (locks : ℕ) → locks ≤ 15 → made image locks ≡ imageOf (newService locks)
 unfolding makeOf triedIn if_then_else_
-made-new image locks most =
+made-image image locks most =
     let e : makeTo image locks ≡ record { image = imageOf (newService locks); refusal = 0 } = simp (le-ltb _ _ most) in
-    ap (λ (refused : Refused). serviceOf (refused .image)) e ∙ comes-back (newService locks) (stays-in-range .new locks)
+    ap (λ (refused : Refused). refused .image) e
 
-weight-most : (bit : Bool) (power : ℕ) → weightOf bit power ≤ power
-unfolding weightOf if_then_else_
-weight-most true power = omega arith
-weight-most false power = omega arith
+pub new-back : (locks : ℕ) → serviceOf (imageOf (newService locks)) ≡ newService locks
+new-back locks = comes-back (newService locks) (stays-in-range .new locks)
 
-byte-most : (b0 b1 b2 b3 b4 b5 b6 b7 : Bool) → byteOf b0 b1 b2 b3 b4 b5 b6 b7 ≤ 255
-unfolding byteOf
-byte-most b0 b1 b2 b3 b4 b5 b6 b7 =
-    omega
-    (arith, weight-most b0 1, weight-most b1 2, weight-most b2 4, weight-most b3 8, weight-most b4 16, weight-most b5 32, weight-most b6 64, weight-most b7 128)
+made-new : (image : Image) (locks : ℕ) → locks ≤ 15 → serviceOf (made image locks) ≡ newService locks
+made-new image locks most = ap serviceOf (made-image image locks most) ∙ new-back locks
 
-locks-most : (service : Service) → standingLocks service ≤ 15
+pub locks-most : (service : Service) → standingLocks service ≤ 15
 unfolding byte17Of
 locks-most service = let most : byte17Of service ≤ 255 = byte-most _ _ _ _ _ _ _ _ in omega arith
 

@@ -14,10 +14,12 @@ use Rattle.events.specs.declared.Outcome.{Outcome}
 use Rattle.state.specs.State.{makeOf}
 use Rattle.state.specs.Flags.{byte17Of, byte18Of, byte96Of, byte97Of}
 use Rattle.answers.specs.declared.Answer.{Answer}
+use Rattle.answers.specs.declared.Answer.the-variants.{Done}
 use Rattle.answers.specs.Answers.{ansOf, wordOf}
 use Rattle.events.specs.Tags.{keyTag, callTag, pollTag, timeOutTag, emptyTag, restartTag, tagOf}
-use Rattle.events.specs.Run.{Shown as Seen}
+use Rattle.events.specs.Run.{Shown as Seen, after}
 use Rattle.events.specs.Step.{stepOf}
+use Rattle.events.specs.Resynchronised.{resynchronisation}
 use Rattle.report.specs.Reported.{reportedOf, bufferOf}
 use Rattle.image.specs.declared.Image.{Image}
 use Rattle.xiquepazo.specs.declared.by_image.Shown.{Shown}
@@ -155,3 +157,9 @@ abbrev pub flagsTo : Image → FlagBytes
 flagsTo image =
     let service = serviceOf image in
     record { byte17 = byte17Of service; byte18 = byte18Of service; byte96 = byte96Of service; byte97 = byte97Of service }
+
+-- the image after the all-up run, E and R, and what this R shows
+abbrev pub resynchronisedTo : Image → Changed
+resynchronisedTo image =
+    let settled = after (serviceOf image) resynchronisation in
+    record { image = imageOf settled; shown = shownWith settled (ansOf Done) 0 0 }

@@ -1,7 +1,7 @@
 // What each exported call does, by value: the image that it leaves and what it returns. A refused call leaves every number of the image.
 ghost use mathlib.Core.Path.{_≡_};
 ghost use Rattle.report.specs.Report.{reportFrom};
-ghost use Rattle.xiquepazo.specs.Exports.{shownWith, seen, isUnknown, eventIn, ansIn, ranOf, recognised, eventTo, makeTo, reportTo, writtenTo, flagsTo};
+ghost use Rattle.xiquepazo.specs.Exports.{shownWith, seen, isUnknown, eventIn, ansIn, ranOf, recognised, eventTo, makeTo, reportTo, writtenTo, flagsTo, resynchronisedTo};
 use answers::Answer;
 use events::Event;
 use events::tags;
@@ -228,4 +228,20 @@ pub fn flag_bytes(image: Image) -> FlagBytes
         byte96: shown.byte96,
         byte97: shown.byte97,
     }
+}
+
+// Newly made with the lock bits that stand; the R shows it.
+pub fn resynchronise(image: Image) -> Changed
+    ensures { λ r. ⌜ r ≡ resynchronisedTo image ⌝ }
+{
+    let flags = flag_bytes(image);
+    let made = make(image, flags.byte17 / 16);
+    let fresh = made.image;
+    let restart = Tagged {
+        tag: tags::RESTART,
+        a: 0,
+        b: 0,
+        c: 0,
+    };
+    event_on_copy(fresh, restart)
 }

@@ -1,7 +1,7 @@
 // The calls for C and Rust: thin calls over the calls by value, on an image that the caller lends.
 ghost use mathlib.Core.Path.{_≡_};
 ghost use Rattle.xiquepazo.specs.Reads.{readTo};
-ghost use Rattle.xiquepazo.specs.Exports.{eventTo, makeTo, reportTo, writtenTo, flagsTo};
+ghost use Rattle.xiquepazo.specs.Exports.{eventTo, makeTo, reportTo, writtenTo, flagsTo, resynchronisedTo};
 use crate::by_image::FlagBytes;
 use crate::by_image::Shown;
 use crate::by_image::Tagged;
@@ -43,6 +43,17 @@ pub extern "C" fn xiquepazo_report(image: &mut Image, event: Tagged, buffer: &mu
     let refused = by_image::report(*image, event, buffer);
     *image = refused.image;
     refused.refusal
+}
+
+// As if the all-up run, E and R were fed; shows what this R shows.
+#[no_mangle]
+pub extern "C" fn xiquepazo_resynchronise(image: &mut Image) -> Shown
+    ensures { λ r. ⌜ (now (image .exit) ≡ resynchronisedTo (now (image .entry)) .image)
+        × (r ≡ resynchronisedTo (now (image .entry)) .shown) ⌝ }
+{
+    let changed = by_image::resynchronise(*image);
+    *image = changed.image;
+    changed.shown
 }
 
 // The flag bytes as they stand.

@@ -1,0 +1,16 @@
+-- The proof of `lent::by_value::resynchronise`.
+-- Assumes nothing.
+use Rattle.lent.specs.Lent.{resynchronisedIn}
+use borrow.Author.Needs.{needs}
+use Rattle.lent.proofs.by_value.resynchronise.Statement.{statement}
+use Rattle.lent.proofs.by_value.resynchronise.Tie as tie
+
+resynchronise-requires : tie.Need-resynchronise-requires
+resynchronise-requires c κs = search needs
+
+returns : tie.Need-returns
+unfolding resynchronisedIn
+returns c = cc
+
+pub resynchronise-spec : {M : Type 1} → statement M
+resynchronise-spec = tie.close (tie.spec resynchronise-requires returns)
