@@ -8,7 +8,6 @@ use borrow.Author.Tests.{ltb-false}
 use Rattle.bits.specs.Bits.{byteOf, weightOf}
 use Rattle.bits.proofs.Choice.{by-test, either}
 use Rattle.word.specs.declared.Word.{Word}
-use Rattle.word.specs.Word.{codeOf, asciiOf, wordWith}
 use Rattle.port.specs.declared.Effect.{Effect}
 use Rattle.port.specs.declared.Effect.the-variants as effect
 use Rattle.port.specs.KeyByte.{keyByteOf}
@@ -25,7 +24,7 @@ use Rattle.events.specs.declared.Event.{Event}
 use Rattle.events.specs.declared.Event.the-variants.{Key, Call, Poll, TimeOut, Empty, Restart}
 use Rattle.events.specs.declared.Outcome.{Outcome}
 use Rattle.events.specs.Outcomes.{answeredOf, offeredOf}
-use Rattle.events.specs.Keyboard.{breakWord, brokenOf, onEffect, typedOf, keyOf}
+use Rattle.events.specs.Keyboard.{brokenOf, onEffect, typedOf, keyOf}
 use Rattle.events.specs.Commands.{ledValue, onLine, pollOf, acknowledgeOf, resendOf, timeOutOf, restartOf}
 use Rattle.events.specs.Functions.{takeOf, lookOf, statusOf, setRateOf, callOf}
 use Rattle.events.specs.Step.{emptyOf, stepOf}
@@ -50,7 +49,7 @@ unfolding onEffect brokenOf
 effect-in service effect.Nothing h = answered-in service _ h
 effect-in service (effect.Put word) h = offered-in service word _ _ h
 effect-in service effect.Break h =
-    answered-in _ _ (record { queue = queue-stays-in-range .put queue.emptyQueue breakWord (queue-stays-in-range .empty); line = h .line })
+    answered-in _ _ (record { queue = queue-stays-in-range .put queue.emptyQueue _ (queue-stays-in-range .empty); line = h .line })
 effect-in service effect.RestartAsked h = answered-in service _ h
 effect-in service effect.Overrun h = answered-in service _ h
 
@@ -109,7 +108,7 @@ call-in service function a b h =
     (either Left _ _ _ (answered-in service _ h)
     (either Left _ _ _ (answered-in service _ h)
     (either Left _ _ _ (rate-in service a b h)
-    (either Left _ _ _ (offered-in service (wordWith (codeOf a) (asciiOf b)) _ _ h) (answered-in service _ h))))))
+    (either Left _ _ _ (offered-in service _ _ _ h) (answered-in service _ h))))))
 
 -- ---- every event
 

@@ -70,14 +70,14 @@ fn close_at(service: Service, end: u16, refusal: u8, text: &mut [u8], at: usize)
     }
 }
 
-// One event, with its report from an index of the text on.
+// One event, with its report from an index of the text on, by the lent call: whatever a program traces runs through it.
 fn report_at(service: Service, event: Event, text: &mut [u8], at: usize) -> Service
     requires { ⌜ at + 44 ≤ length (now text) ⌝ }
     ensures { λ r. ⌜ r ≡ next service event ⌝ }
     ensures { λ _. ⌜ now (text .exit) ≡ take at (now (text .entry)) ++ (textOf (eventReport service event) ++ drop (at + 44) (now (text .entry))) ⌝ }
 {
-    let reported = report_call::report_event(service, event, &mut text[at..]);
-    reported.service
+    let tried = lent::report_on_copy(service, event, &mut text[at..]);
+    tried.service
 }
 
 // Printing goes on with the event at an offset.
