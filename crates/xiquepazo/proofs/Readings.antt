@@ -5,7 +5,7 @@ use native.Mathlib.Nat.{sub-zero}
 use native.Mathlib.Omega.{arith}
 use mathlib.Core.Path.{_≡_, refl, ap}
 use mathlib.Core.Bool.{false}
-use mathlib.Core.List.{List, [], _∷_, map}
+use mathlib.Core.List.{List, _∷_, map}
 use lib.Dec.{eqb}
 use lib.ListN.{length, drop, length-drop}
 use Rattle.bits.specs.Choice.{if_then_else_}
@@ -19,8 +19,8 @@ use Rattle.pack.specs.Laws.{Stops}
 use Rattle.pack.proofs.Walk.{by-kind, event-at, by-next, by-stop}
 use Rattle.xiquepazo.specs.declared.by_image.Tagged.{Tagged}
 use Rattle.xiquepazo.specs.Exports.{written}
-use Rattle.xiquepazo.specs.Reads.{stoppedAt, readingOf, readTo}
-use Rattle.xiquepazo.specs.ReadLaws.{Told, EventsTold, eventsBy, ReadWhole}
+use Rattle.xiquepazo.specs.Reads.{stoppedAt, readingOf}
+use Rattle.xiquepazo.specs.ReadLaws.{EventsTold, eventsBy, ReadWhole}
 
 pub rest-within : (found : Read) (part : List ℕ) → length (restOf found part) ≤ length part
 rest-within (read.Event event bytes) part = omega (arith, length-drop bytes part)
