@@ -1,7 +1,7 @@
 # Installs the static library, its header and its pkg-config file: make install PREFIX=/some/where
 # DESTDIR stands before each path that is written to; the pkg-config file names PREFIX alone.
 PREFIX = /usr/local
-VERSION = 0.1.0
+VERSION = $(shell sed -n 's/.define XIQUEPAZO_VERSION "\(.*\)"/\1/p' include/xiquepazo.h)
 
 prefix = $(abspath $(PREFIX))
 library = $(DESTDIR)$(prefix)/lib

@@ -57,30 +57,21 @@ static void feed(struct xiquepazo_service *service, const uint8_t *bytes, size_t
 /* Takes the words that wait, oldest first. */
 static void take_words(struct xiquepazo_service *service)
 {
-    struct xiquepazo_shown shown = xiquepazo_call(service, 0x00, 0, 0);
+    struct xiquepazo_shown shown = xiquepazo_call(service, XIQUEPAZO_TAKE_WORD, 0, 0);
     while (shown.ans == XIQUEPAZO_RETURNED) {
         printf("word %04X\n", shown.word);
-        shown = xiquepazo_call(service, 0x00, 0, 0);
+        shown = xiquepazo_call(service, XIQUEPAZO_TAKE_WORD, 0, 0);
     }
 }
 
 /* Runs an event and prints its report. */
 static void print_report(struct xiquepazo_service *service, struct xiquepazo_tagged event)
 {
-    uint8_t text[XIQUEPAZO_REPORT];
+    char text[XIQUEPAZO_REPORT];
     uint8_t refusal = xiquepazo_report(service, event, text, sizeof text);
     fwrite(text, 1, sizeof text, stdout);
     if (refusal != 0)
         printf("refused by %d\n", refusal);
-}
-
-/* After a keyboard was plugged in: every key up, the queue empty, the line restarted. */
-static void resynchronise(struct xiquepazo_service *service)
-{
-    static const uint8_t all_up[] = {0xB9, 0xAA, 0xB6, 0x9D, 0xE0, 0x9D, 0xB8, 0xE0, 0xB8, 0xBA, 0xC5, 0xC6, 0xD2, 0xD4, 0x39, 0xB9};
-    feed(service, all_up, sizeof all_up);
-    xiquepazo_empty(service);
-    xiquepazo_restart(service);
 }
 
 /* Whether refused calls leave every byte that was lent. */
@@ -122,7 +113,7 @@ int main(void)
 
     feed(&service, caps_lock, sizeof caps_lock);
     drain(&service, &keyboard);
-    xiquepazo_call(&service, 0x03, 1, 2);
+    xiquepazo_call(&service, XIQUEPAZO_SET_RATE, 1, 2);
     drain(&service, &keyboard);
 
     print_report(&service, key_b);
@@ -130,7 +121,7 @@ int main(void)
 
     printf("refused calls leave all: %s\n", refusals_leave_all(&service) ? "yes" : "no");
 
-    resynchronise(&service);
-    printf("byte 17 is %02X\n", xiquepazo_flags(&service).byte17);
+    /* Another keyboard is plugged in. */
+    printf("byte 17 is %02X\n", xiquepazo_resynchronise(&service).byte17);
     return 0;
 }

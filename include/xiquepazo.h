@@ -30,7 +30,9 @@
 extern "C" {
 #endif
 
-/* How many words the queue has room for, and how many bytes a report has. */
+#define XIQUEPAZO_VERSION "0.1.0"
+
+/* How many words the queue has room for, and how many bytes a report has: text in five lines, with no NUL behind it. */
 #define XIQUEPAZO_WORDS 15
 #define XIQUEPAZO_REPORT 44
 
@@ -52,6 +54,63 @@ enum {
     XIQUEPAZO_QUIET = 0x0D,        /* there is nothing to send */
     XIQUEPAZO_GIVEN_UP = 0x0E,     /* the third send of a byte failed, and its command was given up */
     XIQUEPAZO_REFUSED = 0x80
+};
+
+/* The numbers of refusals. */
+enum {
+    XIQUEPAZO_BAD_LOCKS = 1,
+    XIQUEPAZO_BAD_FUNCTION = 2,
+    XIQUEPAZO_BAD_DELAY = 3,
+    XIQUEPAZO_BAD_RATE = 4,
+    XIQUEPAZO_QUEUE_FULL = 5,
+    XIQUEPAZO_BAD_TAG = 6,
+    XIQUEPAZO_CUT_SHORT = 7,
+    XIQUEPAZO_PACK_TOO_LONG = 8,
+    XIQUEPAZO_BUFFER_TOO_SHORT = 9,
+    XIQUEPAZO_BAD_START = 10
+};
+
+/* The int 16h functions. 10, 11 and 12 are for programs that know the enhanced keyboard. */
+enum {
+    XIQUEPAZO_TAKE_WORD = 0x00,
+    XIQUEPAZO_LOOK_AT_WORD = 0x01,
+    XIQUEPAZO_SHIFT_STATUS = 0x02,
+    XIQUEPAZO_SET_RATE = 0x03,
+    XIQUEPAZO_PUT_WORD = 0x05,
+    XIQUEPAZO_TAKE_ENHANCED = 0x10,
+    XIQUEPAZO_LOOK_AT_ENHANCED = 0x11,
+    XIQUEPAZO_EXTENDED_STATUS = 0x12
+};
+
+/* The bits of the flag bytes. */
+enum {
+    XIQUEPAZO_17_RIGHT_SHIFT = 0x01,
+    XIQUEPAZO_17_LEFT_SHIFT = 0x02,
+    XIQUEPAZO_17_CTRL = 0x04,
+    XIQUEPAZO_17_ALT = 0x08,
+    XIQUEPAZO_17_SCROLL = 0x10,
+    XIQUEPAZO_17_NUM = 0x20,
+    XIQUEPAZO_17_CAPS = 0x40,
+    XIQUEPAZO_17_INSERT = 0x80,
+    XIQUEPAZO_18_LEFT_CTRL = 0x01,
+    XIQUEPAZO_18_LEFT_ALT = 0x02,
+    XIQUEPAZO_18_SYSREQ_HELD = 0x04,
+    XIQUEPAZO_18_PAUSED = 0x08,
+    XIQUEPAZO_18_SCROLL_HELD = 0x10,
+    XIQUEPAZO_18_NUM_HELD = 0x20,
+    XIQUEPAZO_18_CAPS_HELD = 0x40,
+    XIQUEPAZO_18_INSERT_HELD = 0x80,
+    XIQUEPAZO_96_E1_OPEN = 0x01,
+    XIQUEPAZO_96_E0_OPEN = 0x02,
+    XIQUEPAZO_96_RIGHT_CTRL = 0x04,
+    XIQUEPAZO_96_RIGHT_ALT = 0x08,
+    XIQUEPAZO_97_SCROLL_DONE = 0x01,
+    XIQUEPAZO_97_NUM_DONE = 0x02,
+    XIQUEPAZO_97_CAPS_DONE = 0x04,
+    XIQUEPAZO_97_ACKNOWLEDGED = 0x10,
+    XIQUEPAZO_97_RESEND = 0x20,
+    XIQUEPAZO_97_LED_COMMAND_RUNS = 0x40,
+    XIQUEPAZO_97_GIVEN_UP = 0x80
 };
 
 /*
@@ -218,7 +277,13 @@ struct xiquepazo_shown xiquepazo_event(struct xiquepazo_service *service, struct
  * Any event, and its report as the first 44 of the `length` bytes at `buffer`; the bytes after them are kept. Returns 0, or 2 to 5 where
  * the event is a call that is refused, 6 for an unknown tag, 9 for fewer than 44 bytes. 6 comes before 9, and 9 before 2 to 5.
  */
-uint8_t xiquepazo_report(struct xiquepazo_service *service, struct xiquepazo_tagged event, uint8_t *buffer, size_t length);
+uint8_t xiquepazo_report(struct xiquepazo_service *service, struct xiquepazo_tagged event, void *buffer, size_t length);
+
+/*
+ * After a plug event: leaves the service as the all-up run, E and R would, whatever it was. No key is down, no prefix open, nothing paused or
+ * waiting, the queue empty; the four locks stay. Shows what this R shows: XIQUEPAZO_DONE, and the locks in byte 17. Never refused.
+ */
+struct xiquepazo_shown xiquepazo_resynchronise(struct xiquepazo_service *service);
 
 /* The flag bytes as they stand. */
 struct xiquepazo_flag_bytes xiquepazo_flags(const struct xiquepazo_service *service);
@@ -234,7 +299,7 @@ struct xiquepazo_reading {
  * Reads the event at `start` in a pack of `length` bytes: from 0 on, each time from `next`, as long as the tag is not 0. 8 comes before 10.
  * Nothing is run: hand the event to xiquepazo_event or xiquepazo_report.
  */
-struct xiquepazo_reading xiquepazo_read(const uint8_t *pack, size_t length, size_t start);
+struct xiquepazo_reading xiquepazo_read(const void *pack, size_t length, size_t start);
 
 /* The calls for one kind of event each. */
 static inline struct xiquepazo_shown xiquepazo_tag(struct xiquepazo_service *service, char tag, uint8_t a, uint8_t b, uint8_t c)

@@ -79,6 +79,7 @@ extern "C" {
     fn xiquepazo_make(image: &mut Image, bits: u8) -> u8;
     fn xiquepazo_event(image: &mut Image, event: Tagged) -> Shown;
     fn xiquepazo_report(image: &mut Image, event: Tagged, buffer: *mut u8, length: usize) -> u8;
+    fn xiquepazo_resynchronise(image: &mut Image) -> Shown;
     fn xiquepazo_flags(image: &Image) -> FlagBytes;
     fn xiquepazo_read(pack: *const u8, length: usize, start: usize) -> Reading;
 }
@@ -118,6 +119,11 @@ impl Image {
     pub fn report(&mut self, event: impl Into<Tagged>, buffer: &mut [u8]) -> u8 {
         let (start, length) = (buffer.as_mut_ptr(), buffer.len());
         unsafe { xiquepazo_report(self, event.into(), start, length) }
+    }
+
+    /// What the all-up run, E and R leave; gives what this R shows.
+    pub fn resynchronise(&mut self) -> Outcome {
+        unsafe { xiquepazo_resynchronise(self) }.into()
     }
 
     /// Flag bytes 17, 18, 96 and 97.

@@ -1,6 +1,6 @@
 //! Demand 3, run for real: after any first list, the all-up run, E and R, a service cannot be told
 //! from one newly made with the locks that stand. Its image is that of the new one byte for byte,
-//! and on a random further list both show the same, event by event.
+//! and on a random further list both show the same, event by event. The one call for it leaves the same image.
 //!
 //! Calls that are turned away by refusal 9 stand before any event: of the first lists, of the all-up
 //! run, before and after its E and R, and of the further lists of either service.
@@ -22,13 +22,15 @@ fn turned_away(image: &mut Image, random: &mut Random, event: &Event) {
     }
 }
 
-/// Runs a list, with reports turned away before its events and after them.
-fn run(image: &mut Image, random: &mut Random, events: &[Event]) {
+/// Runs a list, with reports turned away before its events and after them; gives what the last shows.
+fn run(image: &mut Image, random: &mut Random, events: &[Event]) -> Option<Outcome> {
+    let mut last = None;
     for event in events {
         turned_away(image, random, event);
-        image.event(event);
+        last = Some(image.event(event));
     }
     turned_away(image, random, &Event::Poll);
+    last
 }
 
 /// The all-up run, E and R.
@@ -72,7 +74,10 @@ fn any_first_list_is_forgotten() {
         run(&mut used, &mut random, &first);
         marked += usize::from(used != new_like(&used));
 
-        run(&mut used, &mut random, &resynchronising());
+        let mut at_once = used.clone();
+        let shown = at_once.resynchronise();
+        assert_eq!(run(&mut used, &mut random, &resynchronising()), Some(shown));
+        assert_eq!(used, at_once, "one call does what the run, E and R do");
         let new = new_like(&used);
         assert_eq!(used, new, "after {first:?}");
         let further = random_events(&mut random, flavour, FURTHER_EVENTS);
