@@ -5,7 +5,11 @@
  *
  * The caller keeps the service, as a struct of numbers, and lends it to each call. Every call is proved against the definitions of
  * document 01. It trusts none of the numbers: whatever they are, they mean some service. What it does trust is the pointers, which
- * must be valid, aligned and not null, and must not overlap. One service is used by one thread at a time.
+ * must be valid, aligned and not null, and must not overlap. One service is used by one thread at a time; an interrupt handler counts as
+ * one. Nothing is kept between calls, so different services may be used at the same time.
+ *
+ * A call takes less than 2 KB of stack (1,577 bytes measured, by a report) and writes to the registers xmm0 to xmm5, which an interrupt
+ * handler that calls the library has to save.
  *
  * Refusals, by who causes them. A refused call leaves the service as it was, byte for byte.
  *   1  lock bits above 15                       the maker of the service

@@ -34,7 +34,7 @@ use Rattle.image.specs.declared.LineImage.{LineImage}
 use Rattle.image.specs.declared.QueueImage.{QueueImage}
 use Rattle.image.specs.ImagePort.{flagOf, isSet, prefixNumber, prefixAt, portImage, portAt, sharedImage, sharedAt}
 use Rattle.image.specs.ImageQueue.{wordImage, wordAtImage, headAt, queueImage, queueAt}
-use Rattle.image.specs.ImageLine.{kindNumber, kindAt, settingImage, settingAt, valueAt, commandImage, commandAt, phaseImage, phaseAt, lineImage, lineAt}
+use Rattle.image.specs.ImageLine.{kindNumber, kindAt, settingImage, settingAt, valueIn, commandImage, commandAt, phaseImage, phaseAt, lineImage, lineAt}
 use Rattle.image.specs.Image.{imageOf, serviceOf}
 use Rattle.image.specs.ImageLaws.{ReadsInRange, ComesBack, ZerosAreNew}
 
@@ -80,8 +80,8 @@ unfolding kindAt if_then_else_
 kind-back Led = refl
 kind-back Rate = refl
 
-value-back : (kind : Kind) (value : ℕ) → value < valuesOf kind → valueAt (kindNumber kind) value ≡ value
-unfolding valueAt if_then_else_
+value-back : (kind : Kind) (value : ℕ) → value < valuesOf kind → valueIn (kindNumber kind) value ≡ value
+unfolding valueIn if_then_else_
 value-back Led value h = mod-eq-of-lt h
 value-back Rate value h = mod-eq-of-lt h
 
@@ -124,8 +124,8 @@ unfolding if_then_else_
 value-by true value = omega arith
 value-by false value = omega arith
 
-value-read : (kind value : ℕ) → valueAt kind value < valuesOf (kindAt kind)
-unfolding valueAt kindAt
+value-read : (kind value : ℕ) → valueIn kind value < valuesOf (kindAt kind)
+unfolding valueIn kindAt
 value-read kind value = value-by (eqb kind 0) value
 
 command-read : (image : CommandImage) → CommandInRange (commandAt image)

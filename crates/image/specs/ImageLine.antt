@@ -45,15 +45,15 @@ commandImage phase command =
     }
 
 -- of a command's value the bits that its kind has
-unfoldable pub valueAt : ℕ → ℕ → ℕ
-valueAt kind value = if eqb kind 0 then value % ledValues else value % rateValues
+unfoldable pub valueIn : ℕ → ℕ → ℕ
+valueIn kind value = if eqb kind 0 then value % ledValues else value % rateValues
 
 -- more sends than a byte has are read as three, more bytes than a command sends as six
 abbrev pub commandAt : CommandImage → Command
 commandAt image =
     record {
       kind = kindAt (image .kind);
-      value = valueAt (image .kind) (image .value);
+      value = valueIn (image .kind) (image .value);
       operand = isSet (image .operand);
       sends = min (image .sends) 3;
       sent = min (image .sent) 6;

@@ -1,7 +1,7 @@
 // Lines, to numbers and back.
 ghost use Prim.Native.Nat.{min, _%_};
 ghost use mathlib.Core.Path.{_≡_};
-ghost use Rattle.image.specs.ImageLine.{kindNumber, kindAt, settingImage, settingAt, valueAt, commandImage, commandAt, phaseImage, phaseAt, lineImage, lineAt};
+ghost use Rattle.image.specs.ImageLine.{kindNumber, kindAt, settingImage, settingAt, valueIn, commandImage, commandAt, phaseImage, phaseAt, lineImage, lineAt};
 use crate::CommandImage;
 use crate::LineImage;
 use crate::MarksImage;
@@ -55,7 +55,7 @@ fn setting_of(known: u8, value: u8) -> Setting
 }
 
 fn value_of(kind: u8, value: u8) -> u8
-    ensures { λ r. ⌜ r ≡ valueAt kind value ⌝ }
+    ensures { λ r. ⌜ r ≡ valueIn kind value ⌝ }
 {
     if kind == 0 {
         return value % LED_VALUES;

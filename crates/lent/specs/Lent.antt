@@ -28,11 +28,11 @@ triedOf service made =
 unfoldable pub madeIn : Service → ℕ → Tried
 madeIn service bits = triedOf service (makeOf bits)
 
-abbrev pub answeredOf : Outcome → Answered
-answeredOf outcome = record { answer = outcome .answer; sent = outcome .sent }
+abbrev pub answeredBy : Outcome → Answered
+answeredBy outcome = record { answer = outcome .answer; sent = outcome .sent }
 
 abbrev pub steppedOf : Outcome → Stepped
-steppedOf outcome = record { service = outcome .service; answered = answeredOf outcome }
+steppedOf outcome = record { service = outcome .service; answered = answeredBy outcome }
 
 unfoldable pub eventIn : Service → Event → Stepped
 eventIn service event = steppedOf (stepOf service event)

@@ -26,21 +26,21 @@ use Rattle.port.specs.AltEntry.{altDigit, altEnded}
 use Rattle.port.specs.Makes.{wordPut, entryPut, typed, counted, entered, madeOf, entryFor}
 use Rattle.port.specs.KeyByte.{onEntry, codeRead, onReading, keyByteOf}
 use Rattle.port.proofs.Disjunction.{or-false}
-use Rattle.port.specs.Laws.{Settled, AltSumSettles}
+use Rattle.port.specs.Laws.{SumSettled, AltSumSettles}
 
 record Leaves (d : Decoded) : Type 0 where
-  port : Settled (d .port)
+  port : SumSettled (d .port)
 
-zeroed : (port : Port) → port .sum ≡ 0 → Settled port
+zeroed : (port : Port) → port .sum ≡ 0 → SumSettled port
 zeroed port e = record { zero = λ _. e }
 
 -- ---- makes
 
-put-leaves : (port : Port) (shared : Shared) (code : Code) (word : Word) → Settled port → Leaves (wordPut port shared code word)
+put-leaves : (port : Port) (shared : Shared) (code : Code) (word : Word) → SumSettled port → Leaves (wordPut port shared code word)
 unfolding wordPut
 put-leaves port shared code word h = record { port = record { zero = h .zero } }
 
-entry-leaves : (port : Port) (shared : Shared) (code : Code) (entry : Entry) → Settled port → Leaves (entryPut port shared code entry)
+entry-leaves : (port : Port) (shared : Shared) (code : Code) (entry : Entry) → SumSettled port → Leaves (entryPut port shared code entry)
 unfolding entryPut
 entry-leaves port shared code NoRow h = record { port = h }
 entry-leaves port shared code NoWord h = record { port = h }
@@ -59,7 +59,7 @@ counted-leaves NoDigit port shared code entry h =
 counted-leaves (Is digit) port shared code entry h =
     record { port = record { zero = λ up. let e : Is digit ≡ NoDigit = h up in cc } }
 
-made-leaves : (port : Port) (shared : Shared) (code : Code) (entry : Entry) → Settled port → Leaves (madeOf port shared code entry)
+made-leaves : (port : Port) (shared : Shared) (code : Code) (entry : Entry) → SumSettled port → Leaves (madeOf port shared code entry)
 unfolding madeOf entered
 made-leaves port shared code entry h =
     either Leaves _ _ _ (record { port = h })
@@ -94,7 +94,7 @@ no-break true true e d = absurd (true≢false d)
 no-break true false e d = e
 no-break false down e d = refl
 
-changed-leaves : (port : Port) (shared : Shared) (code : Code) → Settled port → Leaves (flagsChanged port shared code)
+changed-leaves : (port : Port) (shared : Shared) (code : Code) → SumSettled port → Leaves (flagsChanged port shared code)
 unfolding flagsChanged
 changed-leaves port shared code h =
     by-test Leaves (isCode 0xB8 (code .scan) && not (eitherSide (modifiersAfter (port .modifiers) code .alt))) _ _ (λ _. ended-leaves (flagsPort port code) _)
@@ -102,13 +102,13 @@ changed-leaves port shared code h =
 
 -- ---- every byte
 
-on-entry-leaves : (entry : Entry) (port : Port) (shared : Shared) (code : Code) → Settled port → Leaves (onEntry entry port shared code)
+on-entry-leaves : (entry : Entry) (port : Port) (shared : Shared) (code : Code) → SumSettled port → Leaves (onEntry entry port shared code)
 unfolding onEntry
 on-entry-leaves NoRow port shared code h = changed-leaves port shared code h
 on-entry-leaves NoWord port shared code h = made-leaves port shared code NoWord h
 on-entry-leaves (Has word) port shared code h = made-leaves port shared code (Has word) h
 
-on-reading-leaves : (reading : Reading) (port : Port) (shared : Shared) → Settled port → Leaves (onReading reading port shared)
+on-reading-leaves : (reading : Reading) (port : Port) (shared : Shared) → SumSettled port → Leaves (onReading reading port shared)
 unfolding onReading codeRead
 on-reading-leaves Overrun port shared h = record { port = record { zero = h .zero } }
 on-reading-leaves (Opens prefix) port shared h = record { port = record { zero = h .zero } }

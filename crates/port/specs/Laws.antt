@@ -34,7 +34,7 @@ pub record NothingSwallowed : Type 0 where
       → keyByteOf port shared byte ≡ keyByteOf (withPrefix port Closed) shared byte
 
 -- with no Alt down the Alt sum is 0
-pub record Settled (port : Port) : Type 0 where
+pub record SumSettled (port : Port) : Type 0 where
   pub zero : eitherSide (port .modifiers .alt) ≡ false → port .sum ≡ 0
 
 -- the narrow reading of "the last Alt goes up": an Alt must have been down before its break
@@ -46,9 +46,9 @@ flagsChangedNarrowly port shared code =
 
 -- a new port is settled, every byte keeps it so, and on a settled port the two readings are one
 pub record AltSumSettles : Type 0 where
-  pub new : Settled newPort
-  pub kept : (port : Port) (shared : Shared) (byte : ℕ) → Settled port → Settled (keyByteOf port shared byte .port)
-  pub agree : (port : Port) (shared : Shared) (code : Code) → Settled port → flagsChanged port shared code ≡ flagsChangedNarrowly port shared code
+  pub new : SumSettled newPort
+  pub kept : (port : Port) (shared : Shared) (byte : ℕ) → SumSettled port → SumSettled (keyByteOf port shared byte .port)
+  pub agree : (port : Port) (shared : Shared) (code : Code) → SumSettled port → flagsChanged port shared code ≡ flagsChangedNarrowly port shared code
 
 -- a lock is changed by the byte of its own key alone, Insert by the word 5200 alone
 pub record LocksKept (shared : Shared) (byte : ℕ) (after : Decoded) : Type 0 where

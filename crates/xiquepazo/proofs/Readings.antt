@@ -19,8 +19,8 @@ use Rattle.pack.specs.Laws.{Stops}
 use Rattle.pack.proofs.Walk.{by-kind, event-at, by-next, by-stop}
 use Rattle.xiquepazo.specs.declared.by_image.Tagged.{Tagged}
 use Rattle.xiquepazo.specs.Exports.{written}
-use Rattle.xiquepazo.specs.Reads.{stoppedAt, readingOf}
-use Rattle.xiquepazo.specs.ReadLaws.{EventsTold, eventsBy, ReadWhole}
+use Rattle.xiquepazo.specs.Reads.{stoppedAt, readingFrom}
+use Rattle.xiquepazo.specs.ReadLaws.{EventsTold, eventsBy, PackReadWhole}
 
 pub rest-within : (found : Read) (part : List ℕ) → length (restOf found part) ≤ length part
 rest-within (read.Event event bytes) part = omega (arith, length-drop bytes part)
@@ -30,7 +30,7 @@ rest-within read.CutShort part = omega arith
 rest-within read.TooLong part = omega arith
 rest-within read.Beyond part = omega arith
 
-pub stops-there : (pack : List ℕ) (start : ℕ) (found : Read) → Stops found → readingOf pack start found ≡ stoppedAt start (refusalOf found)
+pub stops-there : (pack : List ℕ) (start : ℕ) (found : Read) → Stops found → readingFrom pack start found ≡ stoppedAt start (refusalOf found)
 stops-there pack start read.End none = refl
 stops-there pack start read.UnknownTag none = refl
 stops-there pack start read.CutShort none = refl
@@ -62,6 +62,6 @@ as-parsed (suc readings) pack start =
     (simp (told .tagged, told .next, some-tag) (ap (λ (more : List Tagged). written event ∷ more) (as-parsed readings pack (start + bytes)))))
     (λ none. rw (by-stop readings pack start none) (simp (stops-there pack start (readAt pack start) none)))
 
-pub read-whole : ReadWhole
+pub read-whole : PackReadWhole
 unfolding parse parseFrom
 read-whole pack = rw sub-zero (as-parsed (suc (length pack)) pack 0)

@@ -99,16 +99,16 @@ isUnknown recognised-as.Unknown = true
 isUnknown (recognised-as.Event event) = false
 
 -- an unknown tag runs as a call that 2 refuses, which changes nothing, and is shown as refused by 6
-abbrev pub eventIn : Recognised → Event
-eventIn recognised-as.Unknown = Call 0xFF 0 0
-eventIn (recognised-as.Event event) = event
+abbrev pub eventRun : Recognised → Event
+eventRun recognised-as.Unknown = Call 0xFF 0 0
+eventRun (recognised-as.Event event) = event
 
 abbrev pub ansIn : Answer → Bool → ℕ
 ansIn answer unknown = if unknown then 0x86 else ansOf answer
 
 abbrev pub ranOf : Service → Recognised → Ran
 ranOf service event =
-    let outcome = stepOf service (eventIn event) in
+    let outcome = stepOf service (eventRun event) in
     record {
       service = outcome .service;
       ans = ansIn (outcome .answer) (isUnknown event);

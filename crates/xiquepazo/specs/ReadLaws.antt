@@ -32,5 +32,5 @@ eventsBy (suc readings) pack start =
     if eqb (reading .event .tag) 0 then [] else reading .event ∷ eventsBy readings pack (reading .next)
 
 -- from the first byte on they are the pack's, all of them
-abbrev pub ReadWhole : Type 0
-ReadWhole = (pack : List ℕ) → eventsBy (suc (length pack)) pack 0 ≡ map written (parse pack .events)
+abbrev pub PackReadWhole : Type 0
+PackReadWhole = (pack : List ℕ) → eventsBy (suc (length pack)) pack 0 ≡ map written (parse pack .events)

@@ -14,18 +14,18 @@ abbrev pub stoppedAt : ℕ → ℕ → Reading
 stoppedAt start refusal = record { next = start; event = record { tag = 0; a = 0; b = 0; c = 0 }; refusal = refusal }
 
 -- where the last part of a pack begins
-abbrev pub startOf : List ℕ → List ℕ → ℕ
-startOf pack part = length pack - length part
+abbrev pub beginsAt : List ℕ → List ℕ → ℕ
+beginsAt pack part = length pack - length part
 
 -- behind an event the part after it is handed on
-abbrev pub readingOf : List ℕ → ℕ → Read → Reading
-readingOf pack start (read.Event event bytes) =
-    record { next = startOf pack (restOf (read.Event event bytes) (drop start pack)); event = written event; refusal = 0 }
-readingOf pack start read.End = stoppedAt start (refusalOf read.End)
-readingOf pack start read.UnknownTag = stoppedAt start (refusalOf read.UnknownTag)
-readingOf pack start read.CutShort = stoppedAt start (refusalOf read.CutShort)
-readingOf pack start read.TooLong = stoppedAt start (refusalOf read.TooLong)
-readingOf pack start read.Beyond = stoppedAt start (refusalOf read.Beyond)
+abbrev pub readingFrom : List ℕ → ℕ → Read → Reading
+readingFrom pack start (read.Event event bytes) =
+    record { next = beginsAt pack (restOf (read.Event event bytes) (drop start pack)); event = written event; refusal = 0 }
+readingFrom pack start read.End = stoppedAt start (refusalOf read.End)
+readingFrom pack start read.UnknownTag = stoppedAt start (refusalOf read.UnknownTag)
+readingFrom pack start read.CutShort = stoppedAt start (refusalOf read.CutShort)
+readingFrom pack start read.TooLong = stoppedAt start (refusalOf read.TooLong)
+readingFrom pack start read.Beyond = stoppedAt start (refusalOf read.Beyond)
 
 abbrev pub readTo : List ℕ → ℕ → Reading
-readTo pack start = readingOf pack start (readAt pack start)
+readTo pack start = readingFrom pack start (readAt pack start)

@@ -1,7 +1,7 @@
 // What each exported call does, by value: the image that it leaves and what it returns. A refused call leaves every number of the image.
 ghost use mathlib.Core.Path.{_≡_};
 ghost use Rattle.report.specs.Report.{reportFrom};
-ghost use Rattle.xiquepazo.specs.Exports.{shownWith, seen, isUnknown, eventIn, ansIn, ranOf, recognised, eventTo, makeTo, reportTo, writtenTo, flagsTo, resynchronisedTo};
+ghost use Rattle.xiquepazo.specs.Exports.{shownWith, seen, isUnknown, eventRun, ansIn, ranOf, recognised, eventTo, makeTo, reportTo, writtenTo, flagsTo, resynchronisedTo};
 use answers::Answer;
 use events::Event;
 use events::tags;
@@ -102,7 +102,7 @@ fn is_unknown(event: Recognised) -> bool
 
 // For an unknown tag a call that is refused, since it too changes nothing: then every event takes one way through the code.
 fn event_in(event: Recognised) -> Event
-    ensures { λ r. ⌜ r ≡ eventIn event ⌝ }
+    ensures { λ r. ⌜ r ≡ eventRun event ⌝ }
 {
     match event {
         Recognised::Unknown => Event::Call(0xFF, 0, 0),

@@ -4,7 +4,7 @@ ghost use Prim.Native.Nat.{_≤_};
 ghost use lib.ListN.{length, drop};
 ghost use Rattle.pack.specs.Reading.{firstOf, restOf};
 ghost use Rattle.xiquepazo.specs.Exports.{written};
-ghost use Rattle.xiquepazo.specs.Reads.{startOf, readTo};
+ghost use Rattle.xiquepazo.specs.Reads.{beginsAt, readTo};
 use crate::by_image::Tagged;
 use events::Event;
 use events::tags;
@@ -52,7 +52,7 @@ fn tagged_of(event: Event) -> Tagged
 // Where the part that is handed on begins.
 fn next_start(pack: &[u8], start: usize) -> usize
     requires { ⌜ start ≤ length (now pack) ⌝ }
-    ensures { λ r. ⌜ r ≡ startOf (now (pack .entry)) (restOf (firstOf (drop start (now (pack .entry)))) (drop start (now (pack .entry)))) ⌝ }
+    ensures { λ r. ⌜ r ≡ beginsAt (now (pack .entry)) (restOf (firstOf (drop start (now (pack .entry)))) (drop start (now (pack .entry)))) ⌝ }
 {
     let rest = pack::rest(&pack[start..]);
     pack.len() - rest.len()

@@ -2,16 +2,16 @@
 -- Assumes nothing.
 use borrow.Author.Tests.{eq-eqb, ne-eqb}
 use Rattle.bits.specs.Choice.{if_then_else_}
-use Rattle.image.specs.ImageLine.{valueAt}
+use Rattle.image.specs.ImageLine.{valueIn}
 use Rattle.image.proofs.line_part.value_of.Statement.{statement}
 use Rattle.image.proofs.line_part.value_of.Tie as tie
 
 returns : tie.Need-returns
-unfolding valueAt if_then_else_
+unfolding valueIn if_then_else_
 returns c = simp (eq-eqb _ _ (c .if1 .taken))
 
 returns-2 : tie.Need-returns-2
-unfolding valueAt if_then_else_
+unfolding valueIn if_then_else_
 returns-2 c = simp (ne-eqb _ _ (c .if1 .left))
 
 pub value-of-spec : {M : Type 1} → statement M
