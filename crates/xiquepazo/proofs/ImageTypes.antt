@@ -6,16 +6,16 @@ use mir.Syntax.{Ty, tyNamed}
 use denote.Struct.Laws as LL
 use Rattle.image.proofs.Image as Image
 use Rattle.image.proofs.Image.Laws as Image′
-use Rattle.xiquepazo.proofs.by_image.Shown as Shown
-use Rattle.xiquepazo.proofs.by_image.Shown.Laws as Shown′
-use Rattle.xiquepazo.proofs.by_image.Tagged as Tagged
-use Rattle.xiquepazo.proofs.by_image.Tagged.Laws as Tagged′
-use Rattle.xiquepazo.proofs.by_image.FlagBytes as FlagBytes
-use Rattle.xiquepazo.proofs.by_image.FlagBytes.Laws as FlagBytes′
-use Rattle.xiquepazo.proofs.by_image.Changed as Changed
-use Rattle.xiquepazo.proofs.by_image.Changed.Laws as Changed′
-use Rattle.xiquepazo.proofs.by_image.Refused as Refused
-use Rattle.xiquepazo.proofs.by_image.Refused.Laws as Refused′
+use Rattle.image_calls.proofs.Shown as Shown
+use Rattle.image_calls.proofs.Shown.Laws as Shown′
+use Rattle.image_calls.proofs.Tagged as Tagged
+use Rattle.image_calls.proofs.Tagged.Laws as Tagged′
+use Rattle.image_calls.proofs.FlagBytes as FlagBytes
+use Rattle.image_calls.proofs.FlagBytes.Laws as FlagBytes′
+use Rattle.image_calls.proofs.Changed as Changed
+use Rattle.image_calls.proofs.Changed.Laws as Changed′
+use Rattle.image_calls.proofs.Refused as Refused
+use Rattle.image_calls.proofs.Refused.Laws as Refused′
 use Rattle.lent_walks.proofs.Plain.{Plain, byte, struct, Outcome}
 
 abbrev pub image : Plain

@@ -1,6 +1,1 @@
 pub mod ImageTypes
-pub mod Events
-pub mod Readings
-pub mod ExportLaws
-pub mod CallLists
-pub mod Remade

@@ -1,66 +1,21 @@
 // What each exported call does, by value: the image that it leaves and what it returns. A refused call leaves every number of the image.
 ghost use mathlib.Core.Path.{_≡_};
 ghost use Rattle.report.specs.Report.{reportFrom};
-ghost use Rattle.xiquepazo.specs.Exports.{shownWith, seen, isUnknown, eventRun, ansIn, ranOf, recognised, eventTo, makeTo, reportTo, writtenTo, flagsTo, resynchronisedTo};
+ghost use Rattle.image_calls.specs.Exports.{shownWith, seen, isUnknown, eventRun, ansIn, ranOf, recognised, eventTo, makeTo, reportTo, writtenTo, flagsTo, resynchronisedTo};
 use answers::Answer;
 use events::Event;
 use events::tags;
 use image::Image;
+use image_calls::Changed;
+use image_calls::FlagBytes;
+use image_calls::Ran;
+use image_calls::Recognised;
+use image_calls::Refused;
+use image_calls::Shown;
+use image_calls::Tagged;
 use report::Report;
 use state::Service;
 use state::flags;
-
-// What is seen of an event: its number, its word, the count of bytes sent, and the flag bytes after it.
-#[repr(C)]
-pub struct Shown {
-    pub word: u16,
-    pub ans: u8,
-    pub sent: u8,
-    pub byte17: u8,
-    pub byte18: u8,
-    pub byte96: u8,
-    pub byte97: u8,
-}
-
-// An event as a pack writes it: its capital and up to three bytes.
-#[repr(C)]
-pub struct Tagged {
-    pub tag: u8,
-    pub a: u8,
-    pub b: u8,
-    pub c: u8,
-}
-
-#[repr(C)]
-pub struct FlagBytes {
-    pub byte17: u8,
-    pub byte18: u8,
-    pub byte96: u8,
-    pub byte97: u8,
-}
-
-pub enum Recognised {
-    Unknown,
-    Event(Event),
-}
-
-// A service after an event, and what it answered.
-pub struct Ran {
-    pub service: Service,
-    pub ans: u8,
-    pub word: u16,
-    pub sent: u8,
-}
-
-pub struct Changed {
-    pub image: Image,
-    pub shown: Shown,
-}
-
-pub struct Refused {
-    pub image: Image,
-    pub refusal: u8,
-}
 
 fn shown_with(service: Service, ans: u8, word: u16, sent: u8) -> Shown
     ensures { λ r. ⌜ r ≡ shownWith service ans word sent ⌝ }

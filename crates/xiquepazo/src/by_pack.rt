@@ -3,20 +3,13 @@ ghost use mathlib.Core.Path.{_≡_};
 ghost use Prim.Native.Nat.{_≤_};
 ghost use lib.ListN.{length, drop};
 ghost use Rattle.pack.specs.Reading.{firstOf, restOf};
-ghost use Rattle.xiquepazo.specs.Exports.{written};
-ghost use Rattle.xiquepazo.specs.Reads.{beginsAt, readTo};
-use crate::by_image::Tagged;
+ghost use Rattle.image_calls.specs.Exports.{written};
+ghost use Rattle.image_calls.specs.Reads.{beginsAt, readTo};
 use events::Event;
 use events::tags;
+use image_calls::Reading;
+use image_calls::Tagged;
 use pack::Read;
-
-// `next` is where the next event begins, or the start where none was read; then the tag is 0.
-#[repr(C)]
-pub struct Reading {
-    pub next: usize,
-    pub event: Tagged,
-    pub refusal: u8,
-}
 
 // Bytes that an event does not use are 0.
 fn tagged_of(event: Event) -> Tagged

@@ -1,12 +1,12 @@
 // The calls for C and Rust: thin calls over the calls by value, on an image that the caller lends.
 ghost use mathlib.Core.Path.{_≡_};
-ghost use Rattle.xiquepazo.specs.Reads.{readTo};
-ghost use Rattle.xiquepazo.specs.Exports.{eventTo, makeTo, reportTo, writtenTo, flagsTo, resynchronisedTo};
-use crate::by_image::FlagBytes;
-use crate::by_image::Shown;
-use crate::by_image::Tagged;
-use crate::by_pack::Reading;
+ghost use Rattle.image_calls.specs.Reads.{readTo};
+ghost use Rattle.image_calls.specs.Exports.{eventTo, makeTo, reportTo, writtenTo, flagsTo, resynchronisedTo};
 use image::Image;
+use image_calls::FlagBytes;
+use image_calls::Reading;
+use image_calls::Shown;
+use image_calls::Tagged;
 
 pub mod by_image;
 pub mod by_pack;

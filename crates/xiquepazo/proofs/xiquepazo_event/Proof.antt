@@ -1,6 +1,6 @@
 -- The proof of `xiquepazo::xiquepazo_event`: the walk of `LentWithOne` over `by_image::event`.
 -- Assumes nothing.
-use Rattle.xiquepazo.specs.Exports.{eventTo}
+use Rattle.image_calls.specs.Exports.{eventTo}
 use Rattle.xiquepazo.proofs.ImageTypes.{image, image-name, shown, changed, tagged}
 use Rattle.lent_walks.proofs.LentWithOne.{proved}
 use Rattle.xiquepazo.proofs.by_image.event.Symbol as core

@@ -1,6 +1,6 @@
 -- The proof of `xiquepazo::xiquepazo_flags`: the walk of `Looked` over `by_image::flag_bytes`.
 -- Assumes nothing.
-use Rattle.xiquepazo.specs.Exports.{flagsTo}
+use Rattle.image_calls.specs.Exports.{flagsTo}
 use Rattle.xiquepazo.proofs.ImageTypes.{image, image-name, flag-bytes}
 use Rattle.lent_walks.proofs.Looked.{proved}
 use Rattle.xiquepazo.proofs.by_image.flag_bytes.Symbol as core

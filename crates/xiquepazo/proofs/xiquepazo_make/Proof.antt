@@ -1,6 +1,6 @@
 -- The proof of `xiquepazo::xiquepazo_make`: the walk of `LentWithOne` over `by_image::make`.
 -- Assumes nothing.
-use Rattle.xiquepazo.specs.Exports.{makeTo}
+use Rattle.image_calls.specs.Exports.{makeTo}
 use Rattle.xiquepazo.proofs.ImageTypes.{image, image-name, refused}
 use Rattle.lent_walks.proofs.Plain.{byte}
 use Rattle.lent_walks.proofs.LentWithOne.{proved}

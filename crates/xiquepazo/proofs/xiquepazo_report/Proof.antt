@@ -1,6 +1,6 @@
 -- The proof of `xiquepazo::xiquepazo_report`: the walk of `LentWithBuffer` over `by_image::report`.
 -- Assumes nothing.
-use Rattle.xiquepazo.specs.Exports.{reportTo, writtenTo}
+use Rattle.image_calls.specs.Exports.{reportTo, writtenTo}
 use Rattle.xiquepazo.proofs.ImageTypes.{image, image-name, refused, tagged}
 use Rattle.lent_walks.proofs.Plain.{byte}
 use Rattle.lent_walks.proofs.LentWithBuffer.{proved}

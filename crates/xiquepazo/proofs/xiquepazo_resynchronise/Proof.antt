@@ -1,6 +1,6 @@
 -- The proof of `xiquepazo::xiquepazo_resynchronise`: the walk of `LentAlone` over `by_image::resynchronise`.
 -- Assumes nothing.
-use Rattle.xiquepazo.specs.Exports.{resynchronisedTo}
+use Rattle.image_calls.specs.Exports.{resynchronisedTo}
 use Rattle.xiquepazo.proofs.ImageTypes.{image, image-name, shown, changed}
 use Rattle.lent_walks.proofs.LentAlone.{proved}
 use Rattle.xiquepazo.proofs.by_image.resynchronise.Symbol as core

@@ -3,9 +3,9 @@
 use Prim.Native.Nat.{_<_, _≤_}
 use mathlib.Core.Path.{_≡_, subst}
 use Rattle.image.specs.Image.{serviceOf}
-use Rattle.xiquepazo.specs.declared.by_image.Shown.{Shown}
-use Rattle.xiquepazo.specs.Exports.{recognised, ranOf}
-use Rattle.xiquepazo.proofs.Events.{refused-event, accepted-event}
+use Rattle.image_calls.specs.declared.Shown.{Shown}
+use Rattle.image_calls.specs.Exports.{recognised, ranOf}
+use Rattle.image_calls.proofs.Events.{refused-event, accepted-event}
 use borrow.Author.Needs.{needs}
 use Rattle.xiquepazo.proofs.by_image.event.Statement.{statement}
 use Rattle.xiquepazo.proofs.by_image.event.Tie as tie

@@ -1,7 +1,7 @@
 -- The proof of `xiquepazo::by_image::flag_bytes`.
 -- Assumes nothing.
 use Rattle.bits.specs.Choice.{if_then_else_}
-use Rattle.xiquepazo.specs.Exports.{recognised, unknownIn}
+use Rattle.image_calls.specs.Exports.{recognised, unknownIn}
 use borrow.Author.Needs.{needs}
 use Rattle.xiquepazo.proofs.by_image.flag_bytes.Statement.{statement}
 use Rattle.xiquepazo.proofs.by_image.flag_bytes.Tie as tie

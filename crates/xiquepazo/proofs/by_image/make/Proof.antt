@@ -2,7 +2,7 @@
 -- Assumes nothing.
 use borrow.Author.Tests.{eq-eqb, ne-eqb}
 use Rattle.bits.specs.Choice.{if_then_else_}
-use Rattle.xiquepazo.specs.Exports.{triedIn}
+use Rattle.image_calls.specs.Exports.{triedIn}
 use borrow.Author.Needs.{needs}
 use Rattle.xiquepazo.proofs.by_image.make.Statement.{statement}
 use Rattle.xiquepazo.proofs.by_image.make.Tie as tie

@@ -2,7 +2,7 @@
 -- Assumes nothing.
 use borrow.Author.Tests.{ne-eqb}
 use Rattle.bits.specs.Choice.{if_then_else_}
-use Rattle.xiquepazo.specs.Exports.{recognised}
+use Rattle.image_calls.specs.Exports.{recognised}
 use Rattle.xiquepazo.proofs.by_image.recognise.Statement.{statement}
 use Rattle.xiquepazo.proofs.by_image.recognise.Tie as tie
 

@@ -2,8 +2,8 @@
 -- Assumes nothing.
 use mathlib.Core.Path.{_≡_, _∙_}
 use native.Mathlib.Omega.{arith}
-use Rattle.xiquepazo.specs.Exports.{recognised, isUnknown}
-use Rattle.xiquepazo.proofs.Events.{named, unknown-report, short-report, long-report}
+use Rattle.image_calls.specs.Exports.{recognised, isUnknown}
+use Rattle.image_calls.proofs.Events.{named, unknown-report, short-report, long-report}
 use borrow.Author.Needs.{needs}
 use Rattle.xiquepazo.proofs.by_image.report.Statement.{statement}
 use Rattle.xiquepazo.proofs.by_image.report.Tie as tie

@@ -1,6 +1,6 @@
 -- The proof of `xiquepazo::by_image::resynchronise`.
 -- Assumes nothing.
-use Rattle.xiquepazo.proofs.Remade.{remade-image}
+use Rattle.image_calls.proofs.Remade.{remade-image}
 use borrow.Author.Needs.{needs}
 use Rattle.xiquepazo.proofs.by_image.resynchronise.Statement.{statement}
 use Rattle.xiquepazo.proofs.by_image.resynchronise.Tie as tie

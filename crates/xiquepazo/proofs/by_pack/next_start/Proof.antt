@@ -4,7 +4,7 @@ use native.Mathlib.Omega.{arith}
 use lib.ListN.{drop, length-drop}
 use Rattle.pack.specs.Reading.{firstOf}
 use Rattle.pack.proofs.Reading.{to-end}
-use Rattle.xiquepazo.proofs.Readings.{rest-within}
+use Rattle.image_calls.proofs.Readings.{rest-within}
 use borrow.Author.Needs.{needs}
 use Rattle.xiquepazo.proofs.by_pack.next_start.Statement.{statement}
 use Rattle.xiquepazo.proofs.by_pack.next_start.Tie as tie

@@ -6,7 +6,7 @@ use Rattle.pack.specs.declared.Read.the-variants as read
 use Rattle.pack.specs.Reading.{readAt}
 use Rattle.pack.proofs.Reading.{no-event}
 use Rattle.pack.proofs.Walk.{event-there, event-at}
-use Rattle.xiquepazo.proofs.Readings.{stops-there}
+use Rattle.image_calls.proofs.Readings.{stops-there}
 use borrow.Author.Needs.{needs}
 use Rattle.xiquepazo.proofs.by_pack.read_at.Statement.{statement}
 use Rattle.xiquepazo.proofs.by_pack.read_at.Tie as tie

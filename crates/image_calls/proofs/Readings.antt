@@ -17,10 +17,10 @@ use Rattle.pack.specs.Reading.{readAt, restOf, refusalOf}
 use Rattle.pack.specs.Parsing.{parseBy, parseFrom, parse}
 use Rattle.pack.specs.Laws.{Stops}
 use Rattle.pack.proofs.Walk.{by-kind, event-at, by-next, by-stop}
-use Rattle.xiquepazo.specs.declared.by_image.Tagged.{Tagged}
-use Rattle.xiquepazo.specs.Exports.{written}
-use Rattle.xiquepazo.specs.Reads.{stoppedAt, readingFrom}
-use Rattle.xiquepazo.specs.ReadLaws.{EventsTold, eventsBy, PackReadWhole}
+use Rattle.image_calls.specs.declared.Tagged.{Tagged}
+use Rattle.image_calls.specs.Exports.{written}
+use Rattle.image_calls.specs.Reads.{stoppedAt, readingFrom}
+use Rattle.image_calls.specs.ReadLaws.{EventsTold, eventsBy, PackReadWhole}
 
 pub rest-within : (found : Read) (part : List ℕ) → length (restOf found part) ≤ length part
 rest-within (read.Event event bytes) part = omega (arith, length-drop bytes part)

@@ -6,8 +6,8 @@ use lib.ListN.{length, drop}
 use Rattle.pack.specs.declared.Read.{Read}
 use Rattle.pack.specs.declared.Read.the-variants as read
 use Rattle.pack.specs.Reading.{readAt, restOf, refusalOf}
-use Rattle.xiquepazo.specs.declared.by_pack.Reading.{Reading}
-use Rattle.xiquepazo.specs.Exports.{written}
+use Rattle.image_calls.specs.declared.Reading.{Reading}
+use Rattle.image_calls.specs.Exports.{written}
 
 -- no event was read: its tag is 0, and the next reading would begin here again
 abbrev pub stoppedAt : ℕ → ℕ → Reading

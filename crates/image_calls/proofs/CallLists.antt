@@ -29,12 +29,12 @@ use Rattle.lists.proofs.Demand3.{demand-3}
 use Rattle.image.specs.declared.Image.{Image}
 use Rattle.image.specs.Image.{imageOf, serviceOf}
 use Rattle.image.proofs.ImageLaws.{reads-in-range, comes-back}
-use Rattle.xiquepazo.specs.declared.by_image.Changed.{Changed}
-use Rattle.xiquepazo.specs.declared.by_image.Refused.{Refused}
-use Rattle.xiquepazo.specs.Exports.{shownToC, stepIn, triedIn, makeTo}
-use Rattle.xiquepazo.specs.CallLists.{Called, callOn, afterCalls, seenCalls, Follows, ImagesFollow, made, ImagesForget, ImagesCount}
-use Rattle.xiquepazo.proofs.Events.{step-shows, tried-by}
-use Rattle.xiquepazo.proofs.ExportLaws.{tags-recognised}
+use Rattle.image_calls.specs.declared.Changed.{Changed}
+use Rattle.image_calls.specs.declared.Refused.{Refused}
+use Rattle.image_calls.specs.Exports.{shownToC, stepIn, triedIn, makeTo}
+use Rattle.image_calls.specs.CallLists.{Called, callOn, afterCalls, seenCalls, Follows, ImagesFollow, made, ImagesForget, ImagesCount}
+use Rattle.image_calls.proofs.Events.{step-shows, tried-by}
+use Rattle.image_calls.proofs.ExportLaws.{tags-recognised}
 
 -- ---- one call
 

@@ -10,9 +10,9 @@ use lib.ListN.{length}
 use Rattle.events.specs.declared.Event.{Event}
 use Rattle.report.specs.Reported.{reportLength}
 use Rattle.image.specs.declared.Image.{Image}
-use Rattle.xiquepazo.specs.declared.by_image.Tagged.{Tagged}
-use Rattle.xiquepazo.specs.declared.by_image.Recognised.the-variants as recognised-as
-use Rattle.xiquepazo.specs.Exports.{written, recognised, eventTo, makeTo, reportTo, writtenTo}
+use Rattle.image_calls.specs.declared.Tagged.{Tagged}
+use Rattle.image_calls.specs.declared.Recognised.the-variants as recognised-as
+use Rattle.image_calls.specs.Exports.{written, recognised, eventTo, makeTo, reportTo, writtenTo}
 
 -- every event is recognised by the tag and bytes that it is written with
 abbrev pub TagsRecognised : Type 0

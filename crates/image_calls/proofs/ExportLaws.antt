@@ -19,13 +19,13 @@ use Rattle.events.specs.Step.{stepOf}
 use Rattle.report.specs.Reported.{reportLength}
 use Rattle.report.proofs.BufferLaws.{short-refused}
 use Rattle.image.specs.declared.Image.{Image}
-use Rattle.xiquepazo.specs.declared.by_image.Recognised.{Recognised}
-use Rattle.xiquepazo.specs.declared.by_image.Recognised.the-variants as recognised-as
-use Rattle.xiquepazo.specs.declared.by_image.Changed.{Changed}
-use Rattle.xiquepazo.specs.declared.by_image.Refused.{Refused}
+use Rattle.image_calls.specs.declared.Recognised.{Recognised}
+use Rattle.image_calls.specs.declared.Recognised.the-variants as recognised-as
+use Rattle.image_calls.specs.declared.Changed.{Changed}
+use Rattle.image_calls.specs.declared.Refused.{Refused}
 use Rattle.image.specs.Image.{imageOf, serviceOf}
-use Rattle.xiquepazo.specs.Exports.{shownToC, stepIn, unknownIn, recognised, taggedIn, triedIn, reportedAs, writtenAs, makeTo}
-use Rattle.xiquepazo.specs.ExportLaws.{TagsRecognised, Leaves, UnknownRefused}
+use Rattle.image_calls.specs.Exports.{shownToC, stepIn, unknownIn, recognised, taggedIn, triedIn, reportedAs, writtenAs, makeTo}
+use Rattle.image_calls.specs.ExportLaws.{TagsRecognised, Leaves, UnknownRefused}
 
 pub tags-recognised : TagsRecognised
 unfolding recognised if_then_else_

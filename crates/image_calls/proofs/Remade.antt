@@ -14,10 +14,10 @@ use Rattle.events.specs.Resynchronised.{resynchronisation, standingLocks, remad
 use Rattle.events.proofs.Resynchronised.{resynchronises, locks-stand}
 use Rattle.image.specs.declared.Image.{Image}
 use Rattle.image.specs.Image.{imageOf, serviceOf}
-use Rattle.xiquepazo.specs.declared.by_image.Changed.{Changed}
-use Rattle.xiquepazo.specs.Exports.{shownWith, shownToC, changedBy, stepIn, recognised, written, eventTo, resynchronisedTo}
-use Rattle.xiquepazo.specs.CallLists.{made}
-use Rattle.xiquepazo.proofs.CallLists.{locks-most, made-image, new-back}
+use Rattle.image_calls.specs.declared.Changed.{Changed}
+use Rattle.image_calls.specs.Exports.{shownWith, shownToC, changedBy, stepIn, recognised, written, eventTo, resynchronisedTo}
+use Rattle.image_calls.specs.CallLists.{made}
+use Rattle.image_calls.proofs.CallLists.{locks-most, made-image, new-back}
 
 -- a service as it stands, with what an R shows of it
 abbrev shownRestart : Service → Changed

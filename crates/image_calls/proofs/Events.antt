@@ -26,13 +26,13 @@ use Rattle.report.specs.Reported.{reportLength, refusalIn, writtenOf, bufferOf}
 use Rattle.report.proofs.BufferLaws.{short-refused, long-reported}
 use Rattle.image.specs.declared.Image.{Image}
 use Rattle.image.specs.Image.{imageOf, serviceOf}
-use Rattle.xiquepazo.specs.declared.by_image.Tagged.{Tagged}
-use Rattle.xiquepazo.specs.declared.by_image.Ran.{Ran}
-use Rattle.xiquepazo.specs.declared.by_image.Changed.{Changed}
-use Rattle.xiquepazo.specs.declared.by_image.Refused.{Refused}
-use Rattle.xiquepazo.specs.declared.by_image.Recognised.{Recognised}
-use Rattle.xiquepazo.specs.declared.by_image.Recognised.the-variants as recognised-as
-use Rattle.xiquepazo.specs.Exports.{shownWith, seen, shownToC, changedBy, stepIn, unknownIn, recognised, isUnknown, ranOf, taggedIn, triedIn, reportedAs, writtenAs}
+use Rattle.image_calls.specs.declared.Tagged.{Tagged}
+use Rattle.image_calls.specs.declared.Ran.{Ran}
+use Rattle.image_calls.specs.declared.Changed.{Changed}
+use Rattle.image_calls.specs.declared.Refused.{Refused}
+use Rattle.image_calls.specs.declared.Recognised.{Recognised}
+use Rattle.image_calls.specs.declared.Recognised.the-variants as recognised-as
+use Rattle.image_calls.specs.Exports.{shownWith, seen, shownToC, changedBy, stepIn, unknownIn, recognised, isUnknown, ranOf, taggedIn, triedIn, reportedAs, writtenAs}
 
 -- ---- an event
 

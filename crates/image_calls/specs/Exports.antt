@@ -22,14 +22,14 @@ use Rattle.events.specs.Step.{stepOf}
 use Rattle.events.specs.Resynchronised.{resynchronisation}
 use Rattle.report.specs.Reported.{reportedOf, bufferOf}
 use Rattle.image.specs.declared.Image.{Image}
-use Rattle.xiquepazo.specs.declared.by_image.Shown.{Shown}
-use Rattle.xiquepazo.specs.declared.by_image.Tagged.{Tagged}
-use Rattle.xiquepazo.specs.declared.by_image.FlagBytes.{FlagBytes}
-use Rattle.xiquepazo.specs.declared.by_image.Recognised.{Recognised}
-use Rattle.xiquepazo.specs.declared.by_image.Recognised.the-variants as recognised-as
-use Rattle.xiquepazo.specs.declared.by_image.Ran.{Ran}
-use Rattle.xiquepazo.specs.declared.by_image.Changed.{Changed}
-use Rattle.xiquepazo.specs.declared.by_image.Refused.{Refused}
+use Rattle.image_calls.specs.declared.Shown.{Shown}
+use Rattle.image_calls.specs.declared.Tagged.{Tagged}
+use Rattle.image_calls.specs.declared.FlagBytes.{FlagBytes}
+use Rattle.image_calls.specs.declared.Recognised.{Recognised}
+use Rattle.image_calls.specs.declared.Recognised.the-variants as recognised-as
+use Rattle.image_calls.specs.declared.Ran.{Ran}
+use Rattle.image_calls.specs.declared.Changed.{Changed}
+use Rattle.image_calls.specs.declared.Refused.{Refused}
 use Rattle.image.specs.Image.{imageOf, serviceOf}
 
 -- what is seen of an event, as document 01's report shows it

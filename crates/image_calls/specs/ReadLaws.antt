@@ -10,9 +10,9 @@ use Rattle.events.specs.declared.Event.{Event}
 use Rattle.pack.specs.declared.Read.the-variants as read
 use Rattle.pack.specs.Reading.{readAt}
 use Rattle.pack.specs.Parsing.{parse}
-use Rattle.xiquepazo.specs.declared.by_image.Tagged.{Tagged}
-use Rattle.xiquepazo.specs.Exports.{written}
-use Rattle.xiquepazo.specs.Reads.{readTo}
+use Rattle.image_calls.specs.declared.Tagged.{Tagged}
+use Rattle.image_calls.specs.Exports.{written}
+use Rattle.image_calls.specs.Reads.{readTo}
 
 -- an event is told by its tag and bytes, and the next begins behind them
 pub record Told (pack : List ℕ) (start : ℕ) (event : Event) (bytes : ℕ) : Type 0 where

@@ -11,7 +11,7 @@ use Rattle.events.specs.Sent.{countsOf}
 use Rattle.lists.specs.Items.{Item, runs, reports, Seen, unlessNine, afterItems, ranItems, seenItems, shownIn}
 use Rattle.image.specs.declared.Image.{Image}
 use Rattle.image.specs.Image.{serviceOf}
-use Rattle.xiquepazo.specs.Exports.{seen, written, eventTo, makeTo, reportTo, writtenTo, flagsTo}
+use Rattle.image_calls.specs.Exports.{seen, written, eventTo, makeTo, reportTo, writtenTo, flagsTo}
 
 -- an item of a list as the call for C that it is: what the image is after it, and what is seen
 pub record Called : Type 0 where

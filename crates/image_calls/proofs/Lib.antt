@@ -1,0 +1,5 @@
+pub mod Events
+pub mod Readings
+pub mod ExportLaws
+pub mod CallLists
+pub mod Remade
