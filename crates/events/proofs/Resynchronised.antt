@@ -3,7 +3,7 @@
 use Prim.Native.Nat.{ℕ}
 use mathlib.Core.Path.{_≡_, refl, ap, sym, _∙_}
 use mathlib.Core.Bool.{Bool, true, false, _&&_, not}
-use mathlib.Core.List.{List, [], _∷_, _++_, map}
+use mathlib.Core.List.{List, [], _∷_, map}
 use lib.Dec.{T, eqb}
 use lib.ListN.{drop}
 use Rattle.bits.specs.Choice.{if_then_else_}
@@ -21,7 +21,6 @@ use Rattle.port.specs.KeyByte.{keyByteOf}
 use Rattle.queue.specs.Queue.{emptyQueue}
 use Rattle.line.specs.State.{newLine}
 use Rattle.state.specs.declared.Service.{Service}
-use Rattle.events.specs.declared.Event.{Event}
 use Rattle.events.specs.declared.Event.the-variants.{Key, Empty, Restart}
 use Rattle.events.specs.declared.Outcome.{Outcome}
 use Rattle.state.specs.State.{withLocks, withPort, withQueue, withLine}
@@ -31,7 +30,7 @@ use Rattle.events.specs.Outcomes.{answeredOf, offeredOf}
 use Rattle.events.specs.Step.{emptyOf, stepOf}
 use Rattle.events.specs.Commands.{restartOf}
 use Rattle.events.specs.Run.{next, after}
-use Rattle.events.specs.Resynchronised.{allUpRun, resynchronisation, standingLocks, remade, OnlyLocksStay, Resynchronises, LocksStand}
+use Rattle.events.specs.Resynchronised.{allUpRun, standingLocks, remade, OnlyLocksStay, Resynchronises, LocksStand}
 use Rattle.events.proofs.Model.{model}
 use Rattle.events.proofs.Lists.{after-append}
 

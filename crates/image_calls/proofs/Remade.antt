@@ -9,8 +9,7 @@ use Rattle.state.specs.State.{newService}
 use Rattle.events.specs.declared.Event.the-variants.{Restart}
 use Rattle.events.specs.Commands.{restartOf}
 use Rattle.events.specs.Step.{stepOf}
-use Rattle.events.specs.Run.{after}
-use Rattle.events.specs.Resynchronised.{resynchronisation, standingLocks, remade}
+use Rattle.events.specs.Resynchronised.{standingLocks}
 use Rattle.events.proofs.Resynchronised.{resynchronises, locks-stand}
 use Rattle.image.specs.declared.Image.{Image}
 use Rattle.image.specs.Image.{imageOf, serviceOf}
