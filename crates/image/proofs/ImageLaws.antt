@@ -1,6 +1,6 @@
 -- An image is read as a service in range, and a service in range comes back from its image, part by part.
 -- Assumes nothing.
-use Prim.Native.Nat.{ℕ, min, _%_, _<_}
+use Prim.Native.Nat.{ℕ, min, _+_, _*_, _/_, _%_, _<_, _≤_}
 use native.Mathlib.Nat.{mod-eq-of-lt}
 use native.Mathlib.Omega.{arith}
 use mathlib.Core.Path.{_≡_, refl, ap}
@@ -9,12 +9,13 @@ use mathlib.Core.List.{List, [], _∷_, map}
 use lib.Dec.{eqb, ltb}
 use borrow.Author.Tests.{lt-ltb, ltb-true}
 use Rattle.bits.specs.Choice.{if_then_else_}
+use Rattle.bits.specs.Bits.{weightOf, byteOf, bit4, bit5, bit7}
 use Rattle.bits.proofs.Choice.{by-test, either}
+use Rattle.bits.proofs.Bytes.{digit, Spelt, spelt, digit-read, bits-back, lower-half-raised}
 use Rattle.word.specs.declared.Word.{Word}
 use Rattle.port.specs.declared.Prefix.{Prefix}
 use Rattle.port.specs.declared.Prefix.the-variants.{Closed, E0, E1, E1Make, E1Break}
-use Rattle.port.specs.declared.Port.{Port}
-use Rattle.port.specs.declared.Shared.{Shared}
+use Rattle.port.specs.State.{eitherSide}
 use Rattle.queue.specs.declared.Queue.{Queue}
 use Rattle.queue.specs.Queue.{capacity, emptyQueue}
 use Rattle.queue.specs.Words.{QueueInRange}
@@ -26,17 +27,20 @@ use Rattle.line.specs.declared.Phase.the-variants.{Idle, Awaiting, Ready}
 use Rattle.line.specs.declared.Setting.{Setting}
 use Rattle.line.specs.declared.Setting.the-variants.{None, Value}
 use Rattle.line.specs.declared.Line.{Line}
-use Rattle.line.specs.State.{newLine}
+use Rattle.line.specs.State.{ledRunsOf, ledRunsIn, newLine}
+use Rattle.line.specs.Byte97.{byte97Of}
 use Rattle.line.specs.Ranges.{ledValues, rateValues, valuesOf, SettingBelow, CommandInRange, PhaseInRange, LineInRange}
+use Rattle.state.specs.declared.Service.{Service}
 use Rattle.state.specs.State.{locksOf, newService}
+use Rattle.state.specs.Flags.{e0Open, e1Open, byte17Of, byte18Of, byte96Of, byte97Of as shown97}
 use Rattle.image.specs.declared.CommandImage.{CommandImage}
 use Rattle.image.specs.declared.LineImage.{LineImage}
 use Rattle.image.specs.declared.QueueImage.{QueueImage}
-use Rattle.image.specs.ImagePort.{flagOf, isSet, prefixNumber, prefixAt, portImage, portAt, sharedImage, sharedAt}
+use Rattle.image.specs.ImageFlags.{flagBytesOf, modifiersAt, heldAt, sharedAt, marksAt, prefixNumber, prefixAt}
 use Rattle.image.specs.ImageQueue.{wordImage, wordAtImage, headAt, queueImage, queueAt}
-use Rattle.image.specs.ImageLine.{kindNumber, kindAt, settingImage, settingAt, valueIn, commandImage, commandAt, phaseImage, phaseAt, lineImage, lineAt}
-use Rattle.image.specs.Image.{imageOf, serviceOf}
-use Rattle.image.specs.ImageLaws.{ReadsInRange, ComesBack, ZerosAreNew}
+use Rattle.image.specs.ImageLine.{flagOf, isSet, kindNumber, kindAt, settingImage, settingAt, valueIn, commandImage, commandAt, phaseImage, phaseAt, lineImage, lineAt}
+use Rattle.image.specs.Image.{imageOf, portAt, serviceOf, newImage}
+use Rattle.image.specs.ImageLaws.{ReadsInRange, ComesBack, MadeAnew}
 
 flag-back : (bit : Bool) → isSet (flagOf bit) ≡ bit
 flag-back true = refl
@@ -50,12 +54,55 @@ prefix-back E1 = refl
 prefix-back E1Make = refl
 prefix-back E1Break = refl
 
-port-back : (port : Port) → portAt (portImage port) ≡ port
-unfolding portAt portImage
-port-back port = simp (flag-back, prefix-back)
+modifiers-back : (service : Service) → modifiersAt (flagBytesOf service) ≡ service .port .modifiers
+unfolding byte17Of byte18Of byte96Of
+modifiers-back service =
+    let m = service .port .modifiers in
+    let l = service .shared .locks in
+    let h = service .port .held in
+    let in17 = bits-back (m .shift .right) (m .shift .left) (eitherSide (m .ctrl)) (eitherSide (m .alt)) (l .scroll) (l .num) (l .caps) (l .insert) in
+    let in18 = bits-back (m .ctrl .left) (m .alt .left) (h .sysreq) (service .shared .paused) (h .scroll) (h .num) (h .caps) (h .insert) in
+    let in96 = bits-back (e1Open (service .port .prefix)) (e0Open (service .port .prefix)) (m .ctrl .right) (m .alt .right) false false false false in
+    simp (in17 .at0, in17 .at1, in18 .at0, in18 .at1, in96 .at2, in96 .at3)
 
-shared-back : (shared : Shared) → sharedAt (sharedImage shared) ≡ shared
-shared-back shared = simp flag-back
+held-back : (service : Service) → heldAt (flagBytesOf service .byte18) ≡ service .port .held
+unfolding byte18Of
+held-back service =
+    let m = service .port .modifiers in
+    let h = service .port .held in
+    let in18 = bits-back (m .ctrl .left) (m .alt .left) (h .sysreq) (service .shared .paused) (h .scroll) (h .num) (h .caps) (h .insert) in
+    simp (in18 .at2, in18 .at4, in18 .at5, in18 .at6, in18 .at7)
+
+shared-back : (service : Service) → sharedAt (flagBytesOf service) ≡ service .shared
+unfolding byte17Of byte18Of
+shared-back service =
+    let m = service .port .modifiers in
+    let l = service .shared .locks in
+    let h = service .port .held in
+    let in17 = bits-back (m .shift .right) (m .shift .left) (eitherSide (m .ctrl)) (eitherSide (m .alt)) (l .scroll) (l .num) (l .caps) (l .insert) in
+    let in18 = bits-back (m .ctrl .left) (m .alt .left) (h .sysreq) (service .shared .paused) (h .scroll) (h .num) (h .caps) (h .insert) in
+    simp (in17 .at4, in17 .at5, in17 .at6, in17 .at7, in18 .at3)
+
+odd-part : (number digit rest : ℕ) → number ≡ digit + 2 * rest → digit ≤ 1 → number % 2 ≡ digit
+odd-part number digit rest is most = omega arith
+
+marks-back : (line : Line) → LineInRange line → marksAt (byte97Of line) ≡ line .marks
+unfolding byte97Of weightOf if_then_else_
+marks-back line h =
+    let m = line .marks in
+    let upper : ℕ = byteOf false false false false (m .acknowledged) (m .resend) (ledRunsOf line) (m .abandoned) in
+    let digits : Spelt false false false false (m .acknowledged) (m .resend) (ledRunsOf line) (m .abandoned) = spelt _ _ _ _ _ _ _ _ in
+    let in-range : m .done % 8 ≡ m .done = mod-eq-of-lt (h .done) in
+    let done : (m .done % 8 + upper) % 8 ≡ m .done = omega arith in
+    let from4 : (m .done % 8 + upper) / 16 ≡ digit (m .acknowledged) + 2 * (digit (m .resend) + 2 * (digit (ledRunsOf line) + 2 * digit (m .abandoned))) = omega arith in
+    let from5 : (m .done % 8 + upper) / 32 ≡ digit (m .resend) + 2 * (digit (ledRunsOf line) + 2 * digit (m .abandoned)) = omega arith in
+    let from7 : (m .done % 8 + upper) / 128 ≡ digit (m .abandoned) + 2 * 0 = omega arith in
+    simp (
+      done,
+      digit-read (m .acknowledged) _ (odd-part _ _ _ from4 (digits .most4)),
+      digit-read (m .resend) _ (odd-part _ _ _ from5 (digits .most5)),
+      digit-read (m .abandoned) _ (odd-part _ _ 0 from7 (digits .most7)),
+    )
 
 words-back : (words : List Word) → map wordAtImage (map wordImage words) ≡ words
 words-back [] = refl
@@ -108,15 +155,14 @@ module _ (values : ℕ) where
   unfolding settingAt
   setting-read known value h = either (SettingBelow values) _ _ _ tt h
 
-line-back : (line : Line) → LineInRange line → lineAt (lineImage line) ≡ line
+line-back : (line : Line) → LineInRange line → lineAt (lineImage line) (byte97Of line) ≡ line
 unfolding lineAt lineImage
 line-back line h =
     simp (
-      flag-back,
+      marks-back line h,
       phase-back (line .phase) (h .phase),
       setting-back ledValues (line .handled) (h .handled),
       setting-back rateValues (line .rate) (h .rate),
-      mod-eq-of-lt (h .done),
     )
 
 value-by : (led : Bool) (value : ℕ) → (if led then value % ledValues else value % rateValues) < valuesOf (if led then Led else Rate)
@@ -135,9 +181,9 @@ phase-read : (image : CommandImage) → PhaseInRange (phaseAt image)
 unfolding phaseAt
 phase-read image = either PhaseInRange _ _ _ (command-read image) (either PhaseInRange _ _ _ (command-read image) tt)
 
-line-read : (image : LineImage) → LineInRange (lineAt image)
+line-read : (image : LineImage) (byte97 : ℕ) → LineInRange (lineAt image byte97)
 unfolding lineAt
-line-read image =
+line-read image byte97 =
     record {
       phase = phase-read (image .command);
       handled = setting-read ledValues (image .handled .known) _ (omega arith);
@@ -147,12 +193,25 @@ line-read image =
 
 pub reads-in-range : ReadsInRange
 unfolding serviceOf
-reads-in-range image = record { queue = queue-read (image .queue); line = line-read (image .line) }
+reads-in-range image = record { queue = queue-read (image .queue); line = line-read (image .line) (image .flags .byte97) }
+
+its-line-back : (service : Service) → LineInRange (service .line) → lineAt (lineImage (service .line)) (flagBytesOf service .byte97) ≡ service .line
+unfolding shown97
+its-line-back service = line-back (service .line)
 
 pub comes-back : ComesBack
-unfolding serviceOf imageOf
-comes-back service h = simp (port-back, shared-back, queue-back (service .queue) (h .queue), line-back (service .line) (h .line))
+unfolding serviceOf imageOf portAt
+comes-back service h =
+    simp (prefix-back, modifiers-back service, held-back service, shared-back service, queue-back (service .queue) (h .queue), its-line-back service (h .line))
 
-pub zeros-are-new : ZerosAreNew
-unfolding imageOf portImage queueImage lineImage newService locksOf emptyQueue newLine
-zeros-are-new = refl
+none-set : byteOf false false false false false false false false ≡ 0
+unfolding byteOf weightOf if_then_else_
+none-set = refl
+
+line-clear : (bits : ℕ) → shown97 (newService bits) ≡ 0
+unfolding shown97 byte97Of ledRunsOf ledRunsIn newService newLine byteOf weightOf if_then_else_
+line-clear bits = refl
+
+pub made-anew : MadeAnew
+unfolding imageOf newImage byte17Of byte18Of byte96Of queueImage lineImage newService locksOf emptyQueue newLine
+made-anew bits = simp (lower-half-raised, none-set, line-clear)

@@ -1,2 +1,1 @@
-pub mod Mapped
 pub mod ImageLaws

@@ -1,25 +1,55 @@
 -- The service as numbers only, for callers that know no enum, and the service that any such numbers mean.
 -- Assumes nothing.
+use Prim.Native.Nat.{ℕ, _*_, _%_}
+use lib.ListN.{replicate}
+use Rattle.port.specs.declared.Port.{Port}
+use Rattle.queue.specs.Queue.{arrayLength}
 use Rattle.state.specs.declared.Service.{Service}
 use Rattle.image.specs.declared.Image.{Image}
-use Rattle.image.specs.ImagePort.{portImage, portAt, sharedImage, sharedAt}
+use Rattle.image.specs.ImageFlags.{flagBytesOf, modifiersAt, heldAt, sharedAt, prefixNumber, prefixAt}
 use Rattle.image.specs.ImageQueue.{queueImage, queueAt}
 use Rattle.image.specs.ImageLine.{lineImage, lineAt}
 
 unfoldable pub imageOf : Service → Image
 imageOf service =
     record {
-      queue = queueImage (service .queue);
-      port = portImage (service .port);
-      shared = sharedImage (service .shared);
+      flags = flagBytesOf service;
+      prefix = prefixNumber (service .port .prefix);
+      sum = service .port .sum;
       line = lineImage (service .line);
+      queue = queueImage (service .queue);
+    }
+
+unfoldable pub portAt : Image → Port
+portAt image =
+    record {
+      prefix = prefixAt (image .prefix);
+      modifiers = modifiersAt (image .flags);
+      held = heldAt (image .flags .byte18);
+      sum = image .sum;
     }
 
 unfoldable pub serviceOf : Image → Service
 serviceOf image =
     record {
-      port = portAt (image .port);
-      shared = sharedAt (image .shared);
+      port = portAt image;
+      shared = sharedAt (image .flags);
       queue = queueAt (image .queue);
-      line = lineAt (image .line);
+      line = lineAt (image .line) (image .flags .byte97);
+    }
+
+-- a service newly made with lock bits, of which the last four count
+unfoldable pub newImage : ℕ → Image
+newImage bits =
+    record {
+      flags = record { byte17 = 16 * (bits % 16); byte18 = 0; byte96 = 0; byte97 = 0 };
+      prefix = 0;
+      sum = 0;
+      line =
+          record {
+            rate = record { known = 0; value = 0 };
+            handled = record { known = 0; value = 0 };
+            command = record { phase = 0; kind = 0; value = 0; operand = 0; sends = 0; sent = 0 };
+          };
+      queue = record { words = replicate arrayLength (record { scan = 0; ascii = 0 }); head = 0; count = 0 };
     }

@@ -1,6 +1,7 @@
--- Lines as numbers, and what any such numbers mean.
+-- Lines as numbers, and what any such numbers mean; the marks are in byte 97.
 -- Assumes nothing.
 use Prim.Native.Nat.{ℕ, min, _%_}
+use mathlib.Core.Bool.{Bool, true, false, not}
 use lib.Dec.{eqb}
 use Rattle.bits.specs.Choice.{if_then_else_}
 use Rattle.line.specs.declared.Kind.{Kind}
@@ -10,14 +11,20 @@ use Rattle.line.specs.declared.Phase.{Phase}
 use Rattle.line.specs.declared.Phase.the-variants.{Idle, Awaiting, Ready}
 use Rattle.line.specs.declared.Setting.{Setting}
 use Rattle.line.specs.declared.Setting.the-variants.{None, Value}
-use Rattle.line.specs.declared.Marks.{Marks}
 use Rattle.line.specs.declared.Line.{Line}
 use Rattle.line.specs.Ranges.{ledValues, rateValues}
 use Rattle.image.specs.declared.CommandImage.{CommandImage}
 use Rattle.image.specs.declared.SettingImage.{SettingImage}
-use Rattle.image.specs.declared.MarksImage.{MarksImage}
 use Rattle.image.specs.declared.LineImage.{LineImage}
-use Rattle.image.specs.ImagePort.{flagOf, isSet}
+use Rattle.image.specs.ImageFlags.{marksAt}
+
+-- a flag is 0 or 1, and any other number is read as 1
+abbrev pub flagOf : Bool → ℕ
+flagOf true = 1
+flagOf false = 0
+
+abbrev pub isSet : ℕ → Bool
+isSet number = not (eqb number 0)
 
 abbrev pub kindNumber : Kind → ℕ
 kindNumber Led = 0
@@ -72,38 +79,19 @@ phaseAt image =
     else if eqb (image .phase) 2 then Ready (commandAt image)
     else Idle
 
-abbrev pub marksImage : Marks → MarksImage
-marksImage marks =
-    record {
-      done = marks .done;
-      acknowledged = flagOf (marks .acknowledged);
-      resend = flagOf (marks .resend);
-      abandoned = flagOf (marks .abandoned);
-    }
-
-abbrev pub marksAt : MarksImage → Marks
-marksAt image =
-    record {
-      done = image .done % ledValues;
-      acknowledged = isSet (image .acknowledged);
-      resend = isSet (image .resend);
-      abandoned = isSet (image .abandoned);
-    }
-
 unfoldable pub lineImage : Line → LineImage
 lineImage line =
     record {
       command = phaseImage (line .phase);
       handled = settingImage (line .handled);
       rate = settingImage (line .rate);
-      marks = marksImage (line .marks);
     }
 
-unfoldable pub lineAt : LineImage → Line
-lineAt image =
+unfoldable pub lineAt : LineImage → ℕ → Line
+lineAt image byte97 =
     record {
       phase = phaseAt (image .command);
       handled = settingAt (image .handled .known) (image .handled .value % ledValues);
       rate = settingAt (image .rate .known) (image .rate .value % rateValues);
-      marks = marksAt (image .marks);
+      marks = marksAt byte97;
     }

@@ -1,4 +1,4 @@
-pub mod ImagePort
+pub mod ImageFlags
 pub mod ImageQueue
 pub mod ImageLine
 pub mod Image

@@ -25,7 +25,9 @@ use Rattle.report.specs.Report.{reportFrom, reportOf}
 use Rattle.report.specs.Reported.{reportLength, refusalIn, writtenOf, bufferOf}
 use Rattle.report.proofs.BufferLaws.{short-refused, long-reported}
 use Rattle.image.specs.declared.Image.{Image}
+use Rattle.image.specs.ImageFlags.{flagBytesOf}
 use Rattle.image.specs.Image.{imageOf, serviceOf}
+use Rattle.image_calls.specs.declared.Shown.{Shown}
 use Rattle.image_calls.specs.declared.Tagged.{Tagged}
 use Rattle.image_calls.specs.declared.Ran.{Ran}
 use Rattle.image_calls.specs.declared.Changed.{Changed}
@@ -39,7 +41,7 @@ use Rattle.image_calls.specs.Exports.{shownWith, seen, shownToC, changed
 -- what the code makes of an event as it ran
 abbrev made : Image → Ran → Changed
 made image ran =
-    let shown = shownWith (ran .service) (ran .ans) (ran .word) (ran .sent) in
+    let shown = shownWith (flagBytesOf (ran .service)) (ran .ans) (ran .word) (ran .sent) in
     if ltb 0x7F (ran .ans) then record { image = image; shown = shown } else record { image = imageOf (ran .service); shown = shown }
 
 made-tagged : (image : Image) (event : Recognised) → made image (ranOf (serviceOf image) event) ≡ taggedIn image event
@@ -47,19 +49,21 @@ unfolding unknownIn stepIn shownToC stepOf callOf answeredOf if_then_else_
 made-tagged image recognised-as.Unknown = refl
 made-tagged image (recognised-as.Event event) = refl
 
+-- the flag bytes are shown as the image of the service after the event has them
 module _ (image : Image) (event : Recognised) (ran : Ran) (is : ran ≡ ranOf (serviceOf image) event) where
-  pub refused-event : 0x7F < ran .ans
-      → record { image = image; shown = shownWith (ran .service) (ran .ans) (ran .word) (ran .sent) } ≡ taggedIn image event
-  unfolding if_then_else_
+  abbrev shownBy : Shown
+  shownBy = shownWith (imageOf (ran .service) .flags) (ran .ans) (ran .word) (ran .sent)
+
+  pub refused-event : 0x7F < ran .ans → record { image = image; shown = shownBy } ≡ taggedIn image event
+  unfolding imageOf if_then_else_
   refused-event h =
-      let found : record { image = image; shown = shownWith (ran .service) (ran .ans) (ran .word) (ran .sent) } ≡ made image ran = simp (lt-ltb 0x7F (ran .ans) h) in
+      let found : record { image = image; shown = shownBy } ≡ made image ran = simp (lt-ltb 0x7F (ran .ans) h) in
       found ∙ ap (made image) is ∙ made-tagged image event
 
-  pub accepted-event : ran .ans ≤ 0x7F
-      → record { image = imageOf (ran .service); shown = shownWith (ran .service) (ran .ans) (ran .word) (ran .sent) } ≡ taggedIn image event
-  unfolding if_then_else_
+  pub accepted-event : ran .ans ≤ 0x7F → record { image = imageOf (ran .service); shown = shownBy } ≡ taggedIn image event
+  unfolding imageOf if_then_else_
   accepted-event h =
-      let found : record { image = imageOf (ran .service); shown = shownWith (ran .service) (ran .ans) (ran .word) (ran .sent) } ≡ made image ran = simp (le-ltb 0x7F (ran .ans) h) in
+      let found : record { image = imageOf (ran .service); shown = shownBy } ≡ made image ran = simp (le-ltb 0x7F (ran .ans) h) in
       found ∙ ap (made image) is ∙ made-tagged image event
 
 -- ---- a report

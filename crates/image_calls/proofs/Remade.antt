@@ -12,6 +12,7 @@ use Rattle.events.specs.Step.{stepOf}
 use Rattle.events.specs.Resynchronised.{standingLocks}
 use Rattle.events.proofs.Resynchronised.{resynchronises, locks-stand}
 use Rattle.image.specs.declared.Image.{Image}
+use Rattle.image.specs.ImageFlags.{flagBytesOf}
 use Rattle.image.specs.Image.{imageOf, serviceOf}
 use Rattle.image_calls.specs.declared.Changed.{Changed}
 use Rattle.image_calls.specs.Exports.{shownWith, shownToC, changedBy, stepIn, recognised, written, eventTo, resynchronisedTo}
@@ -20,7 +21,7 @@ use Rattle.image_calls.proofs.CallLists.{locks-most, made-image, new-ba
 
 -- a service as it stands, with what an R shows of it
 abbrev shownRestart : Service → Changed
-shownRestart service = record { image = imageOf service; shown = shownWith service (ansOf Done) 0 0 }
+shownRestart service = record { image = imageOf service; shown = shownWith (flagBytesOf service) (ansOf Done) 0 0 }
 
 new-restarted : (image : Image) (bits : _) → changedBy image (stepOf (newService bits) Restart) ≡ shownRestart (newService bits)
 unfolding stepOf restartOf shownToC if_then_else_ newService

@@ -12,7 +12,6 @@ use Rattle.events.specs.declared.Event.{Event}
 use Rattle.events.specs.declared.Event.the-variants.{Key, Call, Poll, TimeOut, Empty, Restart}
 use Rattle.events.specs.declared.Outcome.{Outcome}
 use Rattle.state.specs.State.{makeOf}
-use Rattle.state.specs.Flags.{byte17Of, byte18Of, byte96Of, byte97Of}
 use Rattle.answers.specs.declared.Answer.{Answer}
 use Rattle.answers.specs.declared.Answer.the-variants.{Done}
 use Rattle.answers.specs.Answers.{ansOf, wordOf}
@@ -21,10 +20,11 @@ use Rattle.events.specs.Run.{Shown as Seen, after}
 use Rattle.events.specs.Step.{stepOf}
 use Rattle.events.specs.Resynchronised.{resynchronisation}
 use Rattle.report.specs.Reported.{reportedOf, bufferOf}
+use Rattle.image.specs.declared.FlagBytes.{FlagBytes}
 use Rattle.image.specs.declared.Image.{Image}
+use Rattle.image.specs.ImageFlags.{flagBytesOf}
 use Rattle.image_calls.specs.declared.Shown.{Shown}
 use Rattle.image_calls.specs.declared.Tagged.{Tagged}
-use Rattle.image_calls.specs.declared.FlagBytes.{FlagBytes}
 use Rattle.image_calls.specs.declared.Recognised.{Recognised}
 use Rattle.image_calls.specs.declared.Recognised.the-variants as recognised-as
 use Rattle.image_calls.specs.declared.Ran.{Ran}
@@ -33,16 +33,16 @@ use Rattle.image_calls.specs.declared.Refused.{Refused}
 use Rattle.image.specs.Image.{imageOf, serviceOf}
 
 -- what is seen of an event, as document 01's report shows it
-abbrev pub shownWith : Service → ℕ → ℕ → ℕ → Shown
-shownWith service ans word sent =
+abbrev pub shownWith : FlagBytes → ℕ → ℕ → ℕ → Shown
+shownWith flags ans word sent =
     record {
       word = word;
       ans = ans;
       sent = sent;
-      byte17 = byte17Of service;
-      byte18 = byte18Of service;
-      byte96 = byte96Of service;
-      byte97 = byte97Of service;
+      byte17 = flags .byte17;
+      byte18 = flags .byte18;
+      byte96 = flags .byte96;
+      byte97 = flags .byte97;
     }
 
 -- the same as the theorems over lists have it
@@ -59,7 +59,7 @@ seen shown =
     }
 
 unfoldable pub shownToC : Outcome → Shown
-shownToC outcome = shownWith (outcome .service) (ansOf (outcome .answer)) (wordOf (outcome .answer)) (outcome .sent)
+shownToC outcome = shownWith (flagBytesOf (outcome .service)) (ansOf (outcome .answer)) (wordOf (outcome .answer)) (outcome .sent)
 
 -- the image of the service after an event; a refusal, 80 plus its number, leaves the image
 abbrev pub changedBy : Image → Outcome → Changed
@@ -72,7 +72,7 @@ stepIn image event = changedBy image (stepOf (serviceOf image) event)
 
 -- refusal 6: the flags and the count of bytes sent are shown as they stand
 unfoldable pub unknownIn : Image → Changed
-unknownIn image = let service = serviceOf image in record { image = image; shown = shownWith service 0x86 0 (sentOf (service .line)) }
+unknownIn image = let service = serviceOf image in record { image = image; shown = shownWith (flagBytesOf service) 0x86 0 (sentOf (service .line)) }
 
 -- an event by its tag and bytes; those that it does not use are 0 here, and any number will do
 abbrev pub written : Event → Tagged
@@ -154,12 +154,10 @@ abbrev pub writtenTo : Image → Tagged → List ℕ → List ℕ
 writtenTo image tagged buffer = writtenAs image (recognised tagged) buffer
 
 abbrev pub flagsTo : Image → FlagBytes
-flagsTo image =
-    let service = serviceOf image in
-    record { byte17 = byte17Of service; byte18 = byte18Of service; byte96 = byte96Of service; byte97 = byte97Of service }
+flagsTo image = flagBytesOf (serviceOf image)
 
 -- the image after the all-up run, E and R, and what this R shows
 abbrev pub resynchronisedTo : Image → Changed
 resynchronisedTo image =
     let settled = after (serviceOf image) resynchronisation in
-    record { image = imageOf settled; shown = shownWith settled (ansOf Done) 0 0 }
+    record { image = imageOf settled; shown = shownWith (flagBytesOf settled) (ansOf Done) 0 0 }

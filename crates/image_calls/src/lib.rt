@@ -25,14 +25,6 @@ pub struct Tagged {
     pub c: u8,
 }
 
-#[repr(C)]
-pub struct FlagBytes {
-    pub byte17: u8,
-    pub byte18: u8,
-    pub byte96: u8,
-    pub byte97: u8,
-}
-
 pub enum Recognised {
     Unknown,
     Event(Event),

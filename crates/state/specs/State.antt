@@ -1,9 +1,10 @@
 -- Document 01, "Service and events": how a service is made, and services with one part changed.
 -- Assumes nothing.
-use Prim.Native.Nat.{ℕ, _/_, _%_}
+use Prim.Native.Nat.{ℕ}
 use mathlib.Core.Bool.{Bool, false}
-use lib.Dec.{eqb, ltb}
+use lib.Dec.{ltb}
 use Rattle.bits.specs.Choice.{if_then_else_}
+use Rattle.bits.specs.Bits.{bit0, bit1, bit2, bit3}
 use Rattle.port.specs.declared.Port.{Port}
 use Rattle.port.specs.declared.Shared.{Shared}
 use Rattle.port.specs.declared.Locks.{Locks}
@@ -19,10 +20,10 @@ use Rattle.state.specs.declared.Made.{Made}
 unfoldable pub locksOf : ℕ → Locks
 locksOf bits =
     record {
-      scroll = eqb (bits % 2) 1;
-      num = eqb (bits / 2 % 2) 1;
-      caps = eqb (bits / 4 % 2) 1;
-      insert = eqb (bits / 8 % 2) 1;
+      scroll = bit0 bits;
+      num = bit1 bits;
+      caps = bit2 bits;
+      insert = bit3 bits;
     }
 
 -- no key down, no word in the queue

@@ -10,8 +10,8 @@ use Rattle.image_calls.proofs.Shown as Shown
 use Rattle.image_calls.proofs.Shown.Laws as Shown′
 use Rattle.image_calls.proofs.Tagged as Tagged
 use Rattle.image_calls.proofs.Tagged.Laws as Tagged′
-use Rattle.image_calls.proofs.FlagBytes as FlagBytes
-use Rattle.image_calls.proofs.FlagBytes.Laws as FlagBytes′
+use Rattle.image.proofs.FlagBytes as FlagBytes
+use Rattle.image.proofs.FlagBytes.Laws as FlagBytes′
 use Rattle.image_calls.proofs.Changed as Changed
 use Rattle.image_calls.proofs.Changed.Laws as Changed′
 use Rattle.image_calls.proofs.Refused as Refused

@@ -2,14 +2,13 @@
 ghost use mathlib.Core.Path.{_≡_};
 ghost use Rattle.image_calls.specs.Reads.{readTo};
 ghost use Rattle.image_calls.specs.Exports.{eventTo, makeTo, reportTo, writtenTo, flagsTo, resynchronisedTo};
+use image::FlagBytes;
 use image::Image;
-use image_calls::FlagBytes;
 use image_calls::Reading;
 use image_calls::Shown;
 use image_calls::Tagged;
 
-pub mod by_image;
-pub mod by_pack;
+mod over_event;
 
 // A service newly made with four lock bits, or refusal 1.
 #[no_mangle]
@@ -17,7 +16,7 @@ pub extern "C" fn xiquepazo_make(image: &mut Image, bits: u8) -> u8
     ensures { λ r. ⌜ (now (image .exit) ≡ makeTo (now (image .entry)) bits .image)
         × (r ≡ makeTo (now (image .entry)) bits .refusal) ⌝ }
 {
-    let refused = by_image::make(*image, bits);
+    let refused = image_events::make(*image, bits);
     *image = refused.image;
     refused.refusal
 }
@@ -28,7 +27,7 @@ pub extern "C" fn xiquepazo_event(image: &mut Image, event: Tagged) -> Shown
     ensures { λ r. ⌜ (now (image .exit) ≡ eventTo (now (image .entry)) event .image)
         × (r ≡ eventTo (now (image .entry)) event .shown) ⌝ }
 {
-    let changed = by_image::event(*image, event);
+    let changed = image_events::event(*image, event);
     *image = changed.image;
     changed.shown
 }
@@ -40,7 +39,7 @@ pub extern "C" fn xiquepazo_report(image: &mut Image, event: Tagged, buffer: &mu
         × (r ≡ reportTo (now (image .entry)) event (now (buffer .entry)) .refusal)
         × (now (buffer .exit) ≡ writtenTo (now (image .entry)) event (now (buffer .entry))) ⌝ }
 {
-    let refused = by_image::report(*image, event, buffer);
+    let refused = over_event::report(*image, event, buffer);
     *image = refused.image;
     refused.refusal
 }
@@ -51,7 +50,7 @@ pub extern "C" fn xiquepazo_resynchronise(image: &mut Image) -> Shown
     ensures { λ r. ⌜ (now (image .exit) ≡ resynchronisedTo (now (image .entry)) .image)
         × (r ≡ resynchronisedTo (now (image .entry)) .shown) ⌝ }
 {
-    let changed = by_image::resynchronise(*image);
+    let changed = over_event::resynchronise(*image);
     *image = changed.image;
     changed.shown
 }
@@ -61,7 +60,7 @@ pub extern "C" fn xiquepazo_resynchronise(image: &mut Image) -> Shown
 pub extern "C" fn xiquepazo_flags(image: &Image) -> FlagBytes
     ensures { λ r. ⌜ r ≡ flagsTo (now (image .entry)) ⌝ }
 {
-    by_image::flag_bytes(*image)
+    over_event::flag_bytes(*image)
 }
 
 // The event at a start in a pack, where the next begins, and refusal 6, 7, 8 or 10.
@@ -69,5 +68,5 @@ pub extern "C" fn xiquepazo_flags(image: &Image) -> FlagBytes
 pub extern "C" fn xiquepazo_read(pack: &[u8], start: usize) -> Reading
     ensures { λ r. ⌜ r ≡ readTo (now (pack .entry)) start ⌝ }
 {
-    by_pack::read_at(pack, start)
+    image_reading::read_at(pack, start)
 }

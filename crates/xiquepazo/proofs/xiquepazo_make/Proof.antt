@@ -1,11 +1,11 @@
--- The proof of `xiquepazo::xiquepazo_make`: the walk of `LentWithOne` over `by_image::make`.
+-- The proof of `xiquepazo::xiquepazo_make`: the walk of `LentWithOne` over `image_events::make`.
 -- Assumes nothing.
 use Rattle.image_calls.specs.Exports.{makeTo}
 use Rattle.xiquepazo.proofs.ImageTypes.{image, image-name, refused}
 use Rattle.lent_walks.proofs.Plain.{byte}
 use Rattle.lent_walks.proofs.LentWithOne.{proved}
-use Rattle.xiquepazo.proofs.by_image.make.Symbol as core
-use Rattle.xiquepazo.proofs.by_image.make.Met as core-met
+use Rattle.image_events.proofs.make.Symbol as core
+use Rattle.image_events.proofs.make.Met as core-met
 use Rattle.xiquepazo.proofs.xiquepazo_make.Key as key
 use Rattle.xiquepazo.proofs.xiquepazo_make.Code as code
 use Rattle.xiquepazo.proofs.xiquepazo_make.Statement.{statement}
@@ -13,4 +13,4 @@ use Rattle.xiquepazo.proofs.xiquepazo_make.Statement.{statement}
 pub xiquepazo-make-spec : {M : Type 1} → statement M
 unfolding code.routine
 xiquepazo-make-spec 𝓤 H 𝓜 𝓖 𝓡 =
-    proved image byte byte refused image-name core.name makeTo 𝓤 H 𝓜 𝓖 𝓡 code.env key.name (code.unfolded 𝓤 H 𝓜 𝓡) core.routine code.calls-xiquepazo·by-image·make (core-met.met 𝓤 H 𝓜 𝓖 𝓡)
+    proved image byte byte refused image-name core.name makeTo 𝓤 H 𝓜 𝓖 𝓡 code.env key.name (code.unfolded 𝓤 H 𝓜 𝓡) core.routine code.calls-image-events·make (core-met.met 𝓤 H 𝓜 𝓖 𝓡)

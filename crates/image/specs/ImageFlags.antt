@@ -1,0 +1,66 @@
+-- The flag bytes of a service, and the modifiers, held bits, locks, pause and marks that any four flag bytes mean; prefixes as numbers.
+-- Assumes nothing.
+use Prim.Native.Nat.{ℕ, _%_}
+use lib.Dec.{eqb}
+use Rattle.bits.specs.Choice.{if_then_else_}
+use Rattle.bits.specs.Bits.{bit0, bit1, bit2, bit3, bit4, bit5, bit6, bit7}
+use Rattle.port.specs.declared.Prefix.{Prefix}
+use Rattle.port.specs.declared.Prefix.the-variants.{Closed, E0, E1, E1Make, E1Break}
+use Rattle.port.specs.declared.Modifiers.{Modifiers}
+use Rattle.port.specs.declared.Held.{Held}
+use Rattle.port.specs.declared.Locks.{Locks}
+use Rattle.port.specs.declared.Shared.{Shared}
+use Rattle.line.specs.declared.Marks.{Marks}
+use Rattle.line.specs.Ranges.{ledValues}
+use Rattle.state.specs.declared.Service.{Service}
+use Rattle.state.specs.Flags.{byte17Of, byte18Of, byte96Of, byte97Of}
+use Rattle.image.specs.declared.FlagBytes.{FlagBytes}
+
+abbrev pub flagBytesOf : Service → FlagBytes
+flagBytesOf service =
+    record { byte17 = byte17Of service; byte18 = byte18Of service; byte96 = byte96Of service; byte97 = byte97Of service }
+
+-- the left Ctrl and Alt are told by byte 18, the right ones by byte 96
+abbrev pub modifiersAt : FlagBytes → Modifiers
+modifiersAt flags =
+    record {
+      shift = record { left = bit1 (flags .byte17); right = bit0 (flags .byte17) };
+      ctrl = record { left = bit0 (flags .byte18); right = bit2 (flags .byte96) };
+      alt = record { left = bit1 (flags .byte18); right = bit3 (flags .byte96) };
+    }
+
+abbrev pub heldAt : ℕ → Held
+heldAt byte18 =
+    record {
+      scroll = bit4 byte18;
+      num = bit5 byte18;
+      caps = bit6 byte18;
+      insert = bit7 byte18;
+      sysreq = bit2 byte18;
+    }
+
+abbrev pub locksAt : ℕ → Locks
+locksAt byte17 = record { scroll = bit4 byte17; num = bit5 byte17; caps = bit6 byte17; insert = bit7 byte17 }
+
+abbrev pub sharedAt : FlagBytes → Shared
+sharedAt flags = record { locks = locksAt (flags .byte17); paused = bit3 (flags .byte18) }
+
+abbrev pub marksAt : ℕ → Marks
+marksAt byte97 =
+    record { done = byte97 % ledValues; acknowledged = bit4 byte97; resend = bit5 byte97; abandoned = bit7 byte97 }
+
+abbrev pub prefixNumber : Prefix → ℕ
+prefixNumber Closed = 0
+prefixNumber E0 = 1
+prefixNumber E1 = 2
+prefixNumber E1Make = 3
+prefixNumber E1Break = 4
+
+-- any other number is no prefix
+unfoldable pub prefixAt : ℕ → Prefix
+prefixAt number =
+    if eqb number 1 then E0
+    else if eqb number 2 then E1
+    else if eqb number 3 then E1Make
+    else if eqb number 4 then E1Break
+    else Closed

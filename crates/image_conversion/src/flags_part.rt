@@ -1,0 +1,110 @@
+// Flag bytes of a service, what they say of its keys and locks, and prefixes as numbers.
+ghost use mathlib.Core.Path.{_≡_};
+ghost use Rattle.image.specs.ImageFlags.{flagBytesOf, modifiersAt, heldAt, locksAt, sharedAt, marksAt, prefixNumber, prefixAt};
+use image::FlagBytes;
+use line::Marks;
+use port::Held;
+use port::Locks;
+use port::Modifiers;
+use port::Prefix;
+use port::Shared;
+use port::Sides;
+use state::Service;
+use state::flags;
+
+pub fn flag_bytes(service: Service) -> FlagBytes
+    ensures { λ r. ⌜ r ≡ flagBytesOf service ⌝ }
+{
+    FlagBytes {
+        byte17: flags::byte17(service),
+        byte18: flags::byte18(service),
+        byte96: flags::byte96(service),
+        byte97: flags::byte97(service),
+    }
+}
+
+pub fn modifiers_of(flags: FlagBytes) -> Modifiers
+    ensures { λ r. ⌜ r ≡ modifiersAt flags ⌝ }
+{
+    Modifiers {
+        shift: Sides {
+            left: flags.byte17 / 2 % 2 == 1,
+            right: flags.byte17 % 2 == 1,
+        },
+        ctrl: Sides {
+            left: flags.byte18 % 2 == 1,
+            right: flags.byte96 / 4 % 2 == 1,
+        },
+        alt: Sides {
+            left: flags.byte18 / 2 % 2 == 1,
+            right: flags.byte96 / 8 % 2 == 1,
+        },
+    }
+}
+
+pub fn held_of(byte18: u8) -> Held
+    ensures { λ r. ⌜ r ≡ heldAt byte18 ⌝ }
+{
+    Held {
+        scroll: byte18 / 16 % 2 == 1,
+        num: byte18 / 32 % 2 == 1,
+        caps: byte18 / 64 % 2 == 1,
+        insert: byte18 / 128 % 2 == 1,
+        sysreq: byte18 / 4 % 2 == 1,
+    }
+}
+
+fn locks_of(byte17: u8) -> Locks
+    ensures { λ r. ⌜ r ≡ locksAt byte17 ⌝ }
+{
+    Locks {
+        scroll: byte17 / 16 % 2 == 1,
+        num: byte17 / 32 % 2 == 1,
+        caps: byte17 / 64 % 2 == 1,
+        insert: byte17 / 128 % 2 == 1,
+    }
+}
+
+pub fn shared_of(flags: FlagBytes) -> Shared
+    ensures { λ r. ⌜ r ≡ sharedAt flags ⌝ }
+{
+    Shared {
+        locks: locks_of(flags.byte17),
+        paused: flags.byte18 / 8 % 2 == 1,
+    }
+}
+
+pub fn marks_of(byte97: u8) -> Marks
+    ensures { λ r. ⌜ r ≡ marksAt byte97 ⌝ }
+{
+    Marks {
+        done: byte97 % 8,
+        acknowledged: byte97 / 16 % 2 == 1,
+        resend: byte97 / 32 % 2 == 1,
+        abandoned: byte97 / 128 % 2 == 1,
+    }
+}
+
+pub fn prefix_number(prefix: Prefix) -> u8
+    ensures { λ r. ⌜ r ≡ prefixNumber prefix ⌝ }
+{
+    match prefix {
+        Prefix::Closed => 0,
+        Prefix::E0 => 1,
+        Prefix::E1 => 2,
+        Prefix::E1Make => 3,
+        Prefix::E1Break => 4,
+    }
+}
+
+pub fn prefix_of(number: u8) -> Prefix
+    ensures { λ r. ⌜ r ≡ prefixAt number ⌝ }
+{
+    match number {
+        1 => Prefix::E0,
+        2 => Prefix::E1,
+        3 => Prefix::E1Make,
+        4 => Prefix::E1Break,
+        _ => Prefix::Closed,
+    }
+}

@@ -1,0 +1,151 @@
+// Lines, to numbers and back. The marks of a line are in byte 97.
+ghost use Prim.Native.Nat.{min, _%_};
+ghost use mathlib.Core.Path.{_≡_};
+ghost use Rattle.image.specs.ImageLine.{kindNumber, kindAt, settingImage, settingAt, valueIn, commandImage, commandAt, phaseImage, phaseAt, lineImage, lineAt};
+use crate::flags_part::marks_of;
+use image::CommandImage;
+use image::LineImage;
+use image::SettingImage;
+use line::Command;
+use line::Kind;
+use line::Line;
+use line::Phase;
+use line::Setting;
+
+// How many values a LED command has, and a rate command.
+const LED_VALUES: u8 = 8;
+
+const RATE_VALUES: u8 = 128;
+
+fn kind_number(kind: Kind) -> u8
+    ensures { λ r. ⌜ r ≡ kindNumber kind ⌝ }
+{
+    match kind {
+        Kind::Led => 0,
+        Kind::Rate => 1,
+    }
+}
+
+fn kind_of(number: u8) -> Kind
+    ensures { λ r. ⌜ r ≡ kindAt number ⌝ }
+{
+    if number == 0 {
+        return Kind::Led;
+    }
+    Kind::Rate
+}
+
+fn setting_image(setting: Setting) -> SettingImage
+    ensures { λ r. ⌜ r ≡ settingImage setting ⌝ }
+{
+    match setting {
+        Setting::None => SettingImage { known: 0, value: 0 },
+        Setting::Value(value) => SettingImage { known: 1, value },
+    }
+}
+
+fn setting_of(known: u8, value: u8) -> Setting
+    ensures { λ r. ⌜ r ≡ settingAt known value ⌝ }
+{
+    if known == 0 {
+        return Setting::None;
+    }
+    Setting::Value(value)
+}
+
+fn value_of(kind: u8, value: u8) -> u8
+    ensures { λ r. ⌜ r ≡ valueIn kind value ⌝ }
+{
+    if kind == 0 {
+        return value % LED_VALUES;
+    }
+    value % RATE_VALUES
+}
+
+fn at_most(number: u8, most: u8) -> u8
+    ensures { λ r. ⌜ r ≡ min number most ⌝ }
+{
+    if number < most { number } else { most }
+}
+
+fn command_image(phase: u8, command: Command) -> CommandImage
+    ensures { λ r. ⌜ r ≡ commandImage phase command ⌝ }
+{
+    let kind = command.kind;
+    CommandImage {
+        phase,
+        kind: kind_number(kind),
+        value: command.value,
+        operand: command.operand as u8,
+        sends: command.sends,
+        sent: command.sent,
+    }
+}
+
+fn command_of(image: CommandImage) -> Command
+    ensures { λ r. ⌜ r ≡ commandAt image ⌝ }
+{
+    Command {
+        kind: kind_of(image.kind),
+        value: value_of(image.kind, image.value),
+        operand: image.operand != 0,
+        sends: at_most(image.sends, 3),
+        sent: at_most(image.sent, 6),
+    }
+}
+
+fn phase_image(phase: Phase) -> CommandImage
+    ensures { λ r. ⌜ r ≡ phaseImage phase ⌝ }
+{
+    match phase {
+        Phase::Idle => CommandImage {
+            phase: 0,
+            kind: 0,
+            value: 0,
+            operand: 0,
+            sends: 0,
+            sent: 0,
+        },
+        Phase::Awaiting(command) => command_image(1, command),
+        Phase::Ready(command) => command_image(2, command),
+    }
+}
+
+fn phase_of(image: CommandImage) -> Phase
+    ensures { λ r. ⌜ r ≡ phaseAt image ⌝ }
+{
+    if image.phase == 1 {
+        return Phase::Awaiting(command_of(image));
+    }
+    if image.phase == 2 {
+        return Phase::Ready(command_of(image));
+    }
+    Phase::Idle
+}
+
+pub fn image_of(line: Line) -> LineImage
+    ensures { λ r. ⌜ r ≡ lineImage line ⌝ }
+{
+    let phase = line.phase;
+    let handled = line.handled;
+    let rate = line.rate;
+    LineImage {
+        command: phase_image(phase),
+        handled: setting_image(handled),
+        rate: setting_image(rate),
+    }
+}
+
+pub fn line_of(image: LineImage, byte97: u8) -> Line
+    ensures { λ r. ⌜ r ≡ lineAt image byte97 ⌝ }
+{
+    let command = image.command;
+    let handled = image.handled;
+    let rate = image.rate;
+    Line {
+        phase: phase_of(command),
+        handled: setting_of(handled.known, handled.value % LED_VALUES),
+        rate: setting_of(rate.known, rate.value % RATE_VALUES),
+        marks: marks_of(byte97),
+    }
+}

@@ -1,0 +1,88 @@
+// Queues, to numbers and back.
+ghost use mathlib.Core.Path.{_≡_};
+ghost use mathlib.Core.List.{map};
+ghost use Prim.Native.Nat.{min};
+ghost use Rattle.image.specs.ImageQueue.{wordImage, wordAtImage, headAt, queueImage, queueAt};
+use image::QueueImage;
+use image::WordImage;
+use queue::Queue;
+use word::Word;
+
+const CAPACITY: usize = 15;
+
+const PLACES: usize = 16;
+
+fn word_image(word: Word) -> WordImage
+    ensures { λ r. ⌜ r ≡ wordImage word ⌝ }
+{
+    WordImage {
+        scan: word::high(word),
+        ascii: word::low(word),
+    }
+}
+
+fn word_of(image: WordImage) -> Word
+    ensures { λ r. ⌜ r ≡ wordAtImage image ⌝ }
+{
+    word::joined(word::scan_code(image.scan), word::ascii_byte(image.ascii))
+}
+
+fn word_images(words: [Word; PLACES]) -> [WordImage; PLACES]
+    ensures { λ r. ⌜ r ≡ map wordImage words ⌝ }
+{
+    let mut images = [WordImage { scan: 0, ascii: 0 }; PLACES];
+    let mut place = 0;
+    while place < PLACES {
+        images[place] = word_image(words[place]);
+        place = place + 1;
+    }
+    images
+}
+
+fn words_of(images: [WordImage; PLACES]) -> [Word; PLACES]
+    ensures { λ r. ⌜ r ≡ map wordAtImage images ⌝ }
+{
+    let mut words = [word_of(WordImage { scan: 0, ascii: 0 }); PLACES];
+    let mut place = 0;
+    while place < PLACES {
+        words[place] = word_of(images[place]);
+        place = place + 1;
+    }
+    words
+}
+
+pub fn image_of(queue: Queue) -> QueueImage
+    ensures { λ r. ⌜ r ≡ queueImage queue ⌝ }
+{
+    let words = queue.words;
+    let images = word_images(words);
+    QueueImage {
+        head: queue.head,
+        count: queue.count,
+        words: images,
+    }
+}
+
+fn head_of(head: usize) -> usize
+    ensures { λ r. ⌜ r ≡ headAt head ⌝ }
+{
+    if head < CAPACITY { head } else { 0 }
+}
+
+fn count_of(count: usize) -> usize
+    ensures { λ r. ⌜ r ≡ min count 15 ⌝ }
+{
+    if count < CAPACITY { count } else { CAPACITY }
+}
+
+pub fn queue_of(image: QueueImage) -> Queue
+    ensures { λ r. ⌜ r ≡ queueAt image ⌝ }
+{
+    let images = image.words;
+    let words = words_of(images);
+    Queue {
+        words,
+        head: head_of(image.head),
+        count: count_of(image.count),
+    }
+}

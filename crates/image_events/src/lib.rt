@@ -1,0 +1,119 @@
+// An event on an image and an image made, by value. A refused call leaves every number of the image.
+ghost use mathlib.Core.Path.{_≡_};
+ghost use Rattle.image_calls.specs.Exports.{shownWith, isUnknown, eventRun, ansIn, ranOf, recognised, eventTo, makeTo};
+use answers::Answer;
+use events::Event;
+use events::tags;
+use image::FlagBytes;
+use image::Image;
+use image_calls::Changed;
+use image_calls::Ran;
+use image_calls::Recognised;
+use image_calls::Refused;
+use image_calls::Shown;
+use image_calls::Tagged;
+use state::Service;
+
+fn shown_with(flags: FlagBytes, ans: u8, word: u16, sent: u8) -> Shown
+    ensures { λ r. ⌜ r ≡ shownWith flags ans word sent ⌝ }
+{
+    Shown {
+        word,
+        ans,
+        sent,
+        byte17: flags.byte17,
+        byte18: flags.byte18,
+        byte96: flags.byte96,
+        byte97: flags.byte97,
+    }
+}
+
+// The event of a tag and its bytes.
+pub fn recognise(tagged: Tagged) -> Recognised
+    ensures { λ r. ⌜ r ≡ recognised tagged ⌝ }
+{
+    let tag = tagged.tag;
+    match tag {
+        tags::KEY => Recognised::Event(Event::Key(tagged.a)),
+        tags::CALL => Recognised::Event(Event::Call(tagged.a, tagged.b, tagged.c)),
+        tags::POLL => Recognised::Event(Event::Poll),
+        tags::TIME_OUT => Recognised::Event(Event::TimeOut),
+        tags::EMPTY => Recognised::Event(Event::Empty),
+        tags::RESTART => Recognised::Event(Event::Restart),
+        _ => Recognised::Unknown,
+    }
+}
+
+// Whether a tag names no event.
+pub fn is_unknown(event: Recognised) -> bool
+    ensures { λ r. ⌜ r ≡ isUnknown event ⌝ }
+{
+    match event {
+        Recognised::Unknown => true,
+        Recognised::Event(_) => false,
+    }
+}
+
+// For an unknown tag a call that is refused, since it too changes nothing: then every event takes one way through the code.
+fn event_in(event: Recognised) -> Event
+    ensures { λ r. ⌜ r ≡ eventRun event ⌝ }
+{
+    match event {
+        Recognised::Unknown => Event::Call(0xFF, 0, 0),
+        Recognised::Event(event) => event,
+    }
+}
+
+fn ans_of(answer: Answer, unknown: bool) -> u8
+    ensures { λ r. ⌜ r ≡ ansIn answer unknown ⌝ }
+{
+    if unknown {
+        return 0x86;
+    }
+    answers::number(answer)
+}
+
+fn run(service: Service, event: Recognised) -> Ran
+    ensures { λ r. ⌜ r ≡ ranOf service event ⌝ }
+{
+    let outcome = service::step(service, event_in(event));
+    let after = outcome.service;
+    let answer = outcome.answer;
+    Ran {
+        service: after,
+        ans: ans_of(answer, is_unknown(event)),
+        word: answers::word(answer),
+        sent: outcome.sent,
+    }
+}
+
+// The parts of this function are called from here only, where the compiler puts their code: a service that is passed on in memory costs
+// more than all that an event does.
+pub fn event(image: Image, tagged: Tagged) -> Changed
+    ensures { λ r. ⌜ r ≡ eventTo image tagged ⌝ }
+{
+    let service = image_conversion::service_of(image);
+    let event = recognise(tagged);
+    let ran = run(service, event);
+    let after = ran.service;
+    let next = image_conversion::image_of(after);
+    let flags = next.flags;
+    let shown = shown_with(flags, ran.ans, ran.word, ran.sent);
+    if 0x7F < shown.ans {
+        return Changed { image, shown };
+    }
+    Changed { image: next, shown }
+}
+
+// A service newly made with four lock bits, or refusal 1.
+pub fn make(image: Image, bits: u8) -> Refused
+    ensures { λ r. ⌜ r ≡ makeTo image bits ⌝ }
+{
+    if 15 < bits {
+        return Refused { image, refusal: 1 };
+    }
+    Refused {
+        image: image_conversion::new(bits),
+        refusal: 0,
+    }
+}

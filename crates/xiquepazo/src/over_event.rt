@@ -1,0 +1,91 @@
+// The calls that go over an event: a report, the flag bytes, resynchronising. Each runs the event that C runs, on a copy, so that its code
+// stands in the library once.
+ghost use mathlib.Core.Path.{_≡_};
+ghost use Rattle.report.specs.Report.{reportFrom};
+ghost use Rattle.image_calls.specs.Exports.{seen, eventTo, reportTo, writtenTo, flagsTo, resynchronisedTo};
+use events::tags;
+use image::FlagBytes;
+use image::Image;
+use image_calls::Changed;
+use image_calls::Refused;
+use image_calls::Shown;
+use image_calls::Tagged;
+use report::Report;
+
+fn event_on_copy(image: Image, tagged: Tagged) -> Changed
+    ensures { λ r. ⌜ r ≡ eventTo image tagged ⌝ }
+{
+    let mut copy = image;
+    let shown = crate::xiquepazo_event(&mut copy, tagged);
+    Changed { image: copy, shown }
+}
+
+fn report_of(tag: u8, shown: Shown) -> Report
+    ensures { λ r. ⌜ r ≡ reportFrom tag (seen shown) ⌝ }
+{
+    Report {
+        tag,
+        ans: shown.ans,
+        word: shown.word,
+        byte17: shown.byte17,
+        byte18: shown.byte18,
+        byte96: shown.byte96,
+        byte97: shown.byte97,
+        sent: shown.sent,
+    }
+}
+
+pub fn report(image: Image, tagged: Tagged, buffer: &mut [u8]) -> Refused
+    ensures { λ r. ⌜ (r ≡ reportTo image tagged (now (buffer .entry))) × (now (buffer .exit) ≡ writtenTo image tagged (now (buffer .entry))) ⌝ }
+{
+    if image_events::is_unknown(image_events::recognise(tagged)) {
+        return Refused { image, refusal: 6 };
+    }
+    if buffer.len() < report::LENGTH {
+        return Refused { image, refusal: 9 };
+    }
+    let changed = event_on_copy(image, tagged);
+    let shown = changed.shown;
+    let after = changed.image;
+    report_text::write(report_of(tagged.tag, shown), buffer);
+    Refused {
+        image: after,
+        refusal: report_call::refusal(shown.ans),
+    }
+}
+
+// An unknown tag shows the flag bytes as they stand.
+pub fn flag_bytes(image: Image) -> FlagBytes
+    ensures { λ r. ⌜ r ≡ flagsTo image ⌝ }
+{
+    let unknown = Tagged {
+        tag: 0,
+        a: 0,
+        b: 0,
+        c: 0,
+    };
+    let changed = event_on_copy(image, unknown);
+    let shown = changed.shown;
+    FlagBytes {
+        byte17: shown.byte17,
+        byte18: shown.byte18,
+        byte96: shown.byte96,
+        byte97: shown.byte97,
+    }
+}
+
+// Newly made with the lock bits that stand; the R shows it.
+pub fn resynchronise(image: Image) -> Changed
+    ensures { λ r. ⌜ r ≡ resynchronisedTo image ⌝ }
+{
+    let flags = flag_bytes(image);
+    let made = image_events::make(image, flags.byte17 / 16);
+    let fresh = made.image;
+    let restart = Tagged {
+        tag: tags::RESTART,
+        a: 0,
+        b: 0,
+        c: 0,
+    };
+    event_on_copy(fresh, restart)
+}
