@@ -8,7 +8,7 @@
  * must be valid, aligned and not null, and must not overlap. One service is used by one thread at a time; an interrupt handler counts as
  * one. Nothing is kept between calls, so different services may be used at the same time.
  *
- * A call takes less than 2 KB of stack (1,577 bytes measured, by a report) and writes to the registers xmm0 to xmm5, which an interrupt
+ * A call takes less than 2 KB of stack (1,414 bytes measured, by a report) and writes to the registers xmm0 to xmm4, which an interrupt
  * handler that calls the library has to save.
  *
  * Refusals, by who causes them. A refused call leaves the service as it was, byte for byte.
@@ -117,51 +117,17 @@ enum {
     XIQUEPAZO_97_GIVEN_UP = 0x80
 };
 
-/*
- * The service. Make it by xiquepazo_make, or fill it with zeros, which is a service newly made with no lock on; then leave it to the
- * calls. Each number has a range, which no call leaves, and a number beyond it is read as the range's comment says. Flags are 0 or 1, and
- * any other number is read as 1. 80 bytes, none of them padding.
- */
-struct xiquepazo_locks {
-    uint8_t scroll; /* flags */
-    uint8_t num;
-    uint8_t caps;
-    uint8_t insert;
+/* Flag bytes 17, 18, 96 and 97 of the BIOS data area. */
+struct xiquepazo_flag_bytes {
+    uint8_t byte17;
+    uint8_t byte18;
+    uint8_t byte96;
+    uint8_t byte97;
 };
 
-struct xiquepazo_shared {
-    struct xiquepazo_locks locks;
-    uint8_t paused; /* flag */
-};
-
-struct xiquepazo_held {
-    uint8_t scroll; /* flags */
-    uint8_t num;
-    uint8_t caps;
-    uint8_t insert;
-    uint8_t sysreq;
-};
-
-struct xiquepazo_sides {
-    uint8_t left; /* flags */
-    uint8_t right;
-};
-
-struct xiquepazo_modifiers {
-    struct xiquepazo_sides shift;
-    struct xiquepazo_sides ctrl;
-    struct xiquepazo_sides alt;
-};
-
-struct xiquepazo_port {
-    struct xiquepazo_held held;
-    struct xiquepazo_modifiers modifiers;
-    uint8_t prefix; /* 0 none, 1 E0, 2 E1, 3 E1 1D, 4 E1 9D; any other number is none */
-    uint8_t sum;    /* the Alt sum, 0 to 255 */
-};
-
+/* A number that may be missing. */
 struct xiquepazo_setting {
-    uint8_t known; /* flag; 0: there is no value, and the number is not read */
+    uint8_t known; /* 0 or 1; more is 1. Where it is 0, the value is 0, and not read */
     uint8_t value; /* a rate 0 to 127, by its last seven bits; a LED value 0 to 7, by its last three */
 };
 
@@ -170,23 +136,15 @@ struct xiquepazo_command {
     uint8_t phase;   /* 0 idle, 1 a reply is awaited, 2 a poll is due; any other number is idle */
     uint8_t kind;    /* 0 LED; any other number is rate, written as 1 */
     uint8_t value;   /* of a LED command 0 to 7, by its last three bits; of a rate command 0 to 127, by its last seven */
-    uint8_t operand; /* flag: the second byte is under way */
+    uint8_t operand; /* 1 while the second byte is under way, else 0; more is 1 */
     uint8_t sends;   /* of the byte under way, 0 to 3; more is 3 */
     uint8_t sent;    /* bytes of the command, 0 to 6; more is 6 */
-};
-
-struct xiquepazo_marks {
-    uint8_t acknowledged; /* flag */
-    uint8_t abandoned;    /* flag */
-    uint8_t done;         /* LED value, 0 to 7, by its last three bits */
-    uint8_t resend;       /* flag */
 };
 
 struct xiquepazo_line {
     struct xiquepazo_setting rate;    /* that waits */
     struct xiquepazo_setting handled; /* LED value */
     struct xiquepazo_command command;
-    struct xiquepazo_marks marks;
 };
 
 struct xiquepazo_word {
@@ -201,39 +159,44 @@ struct xiquepazo_queue {
     size_t count; /* 0 to 15; more is 15 */
 };
 
+/*
+ * The service. Make it by xiquepazo_make, or fill it with zeros, which is a service newly made with no lock on; then leave it to the
+ * calls. Each number has a range, which no call leaves, and a number beyond it is read as the range's comment says. 64 bytes, none of
+ * them padding.
+ *
+ * From then on its first four bytes are the flag bytes as they stand after the last call, and a panel may read them there; xiquepazo_flags
+ * reads them out of any memory, also memory that no call wrote. Of these bytes a call reads the bits that nothing else tells:
+ *   17  0 and 1, the Shift keys; 4 to 7, the locks
+ *   18  all eight
+ *   96  2, right Ctrl; 3, right Alt
+ *   97  0 to 2, the LED value done last; 4, acknowledged; 5, resend; 7, given up
+ * The other bits follow from these, from the prefix and from the command, or have no meaning. They are ignored, and every call that writes
+ * the service writes them anew.
+ */
 struct xiquepazo_service {
-    struct xiquepazo_shared shared;
-    struct xiquepazo_port port;
+    struct xiquepazo_flag_bytes flags;
+    uint8_t prefix; /* 0 none, 1 E0, 2 E1, 3 E1 1D, 4 E1 9D; any other number is none */
+    uint8_t sum;    /* the Alt sum, 0 to 255 */
     struct xiquepazo_line line;
     struct xiquepazo_queue queue;
 };
 
 /* The struct is laid out as the library has it, or these lines do not compile. */
 #define XIQUEPAZO_AT(member, place) (offsetof(struct xiquepazo_service, member) == (place))
-typedef char xiquepazo_service_is_80_bytes[sizeof(struct xiquepazo_service) == 80 ? 1 : -1];
-typedef char xiquepazo_shared_stands_first
-    [XIQUEPAZO_AT(shared.locks.scroll, 0) && XIQUEPAZO_AT(shared.locks.num, 1) && XIQUEPAZO_AT(shared.locks.caps, 2)
-             && XIQUEPAZO_AT(shared.locks.insert, 3) && XIQUEPAZO_AT(shared.paused, 4)
+typedef char xiquepazo_service_is_64_bytes[sizeof(struct xiquepazo_service) == 64 ? 1 : -1];
+typedef char xiquepazo_flag_bytes_stand_first
+    [XIQUEPAZO_AT(flags.byte17, 0) && XIQUEPAZO_AT(flags.byte18, 1) && XIQUEPAZO_AT(flags.byte96, 2) && XIQUEPAZO_AT(flags.byte97, 3) ? 1 : -1];
+typedef char xiquepazo_prefix_stands_at_4[XIQUEPAZO_AT(prefix, 4) && XIQUEPAZO_AT(sum, 5) ? 1 : -1];
+typedef char xiquepazo_line_stands_at_6
+    [XIQUEPAZO_AT(line.rate.known, 6) && XIQUEPAZO_AT(line.rate.value, 7) && XIQUEPAZO_AT(line.handled.known, 8)
+             && XIQUEPAZO_AT(line.handled.value, 9) && XIQUEPAZO_AT(line.command.phase, 10) && XIQUEPAZO_AT(line.command.kind, 11)
+             && XIQUEPAZO_AT(line.command.value, 12) && XIQUEPAZO_AT(line.command.operand, 13) && XIQUEPAZO_AT(line.command.sends, 14)
+             && XIQUEPAZO_AT(line.command.sent, 15)
          ? 1
          : -1];
-typedef char xiquepazo_port_stands_at_5
-    [XIQUEPAZO_AT(port.held.scroll, 5) && XIQUEPAZO_AT(port.held.num, 6) && XIQUEPAZO_AT(port.held.caps, 7) && XIQUEPAZO_AT(port.held.insert, 8)
-             && XIQUEPAZO_AT(port.held.sysreq, 9) && XIQUEPAZO_AT(port.modifiers.shift.left, 10) && XIQUEPAZO_AT(port.modifiers.shift.right, 11)
-             && XIQUEPAZO_AT(port.modifiers.ctrl.left, 12) && XIQUEPAZO_AT(port.modifiers.ctrl.right, 13) && XIQUEPAZO_AT(port.modifiers.alt.left, 14)
-             && XIQUEPAZO_AT(port.modifiers.alt.right, 15) && XIQUEPAZO_AT(port.prefix, 16) && XIQUEPAZO_AT(port.sum, 17)
-         ? 1
-         : -1];
-typedef char xiquepazo_line_stands_at_18
-    [XIQUEPAZO_AT(line.rate.known, 18) && XIQUEPAZO_AT(line.rate.value, 19) && XIQUEPAZO_AT(line.handled.known, 20)
-             && XIQUEPAZO_AT(line.handled.value, 21) && XIQUEPAZO_AT(line.command.phase, 22) && XIQUEPAZO_AT(line.command.kind, 23)
-             && XIQUEPAZO_AT(line.command.value, 24) && XIQUEPAZO_AT(line.command.operand, 25) && XIQUEPAZO_AT(line.command.sends, 26)
-             && XIQUEPAZO_AT(line.command.sent, 27) && XIQUEPAZO_AT(line.marks.acknowledged, 28) && XIQUEPAZO_AT(line.marks.abandoned, 29)
-             && XIQUEPAZO_AT(line.marks.done, 30) && XIQUEPAZO_AT(line.marks.resend, 31)
-         ? 1
-         : -1];
-typedef char xiquepazo_queue_stands_at_32
-    [XIQUEPAZO_AT(queue.words[0].scan, 32) && XIQUEPAZO_AT(queue.words[0].ascii, 33) && XIQUEPAZO_AT(queue.words[XIQUEPAZO_WORDS].ascii, 63)
-             && XIQUEPAZO_AT(queue.head, 64) && XIQUEPAZO_AT(queue.count, 72)
+typedef char xiquepazo_queue_stands_at_16
+    [XIQUEPAZO_AT(queue.words[0].scan, 16) && XIQUEPAZO_AT(queue.words[0].ascii, 17) && XIQUEPAZO_AT(queue.words[XIQUEPAZO_WORDS].ascii, 47)
+             && XIQUEPAZO_AT(queue.head, 48) && XIQUEPAZO_AT(queue.count, 56)
          ? 1
          : -1];
 #undef XIQUEPAZO_AT
@@ -261,14 +224,6 @@ struct xiquepazo_tagged {
     uint8_t a;
     uint8_t b;
     uint8_t c;
-};
-
-/* Flag bytes 17, 18, 96 and 97 of the BIOS data area. */
-struct xiquepazo_flag_bytes {
-    uint8_t byte17;
-    uint8_t byte18;
-    uint8_t byte96;
-    uint8_t byte97;
 };
 
 /* Makes a new service with the lock bits (bit 0 Scroll, 1 Num, 2 Caps, 3 Insert). Returns 0, or refusal 1 for bits above 15. */

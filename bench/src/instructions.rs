@@ -18,7 +18,7 @@ pub fn count(program: &OsStr, arguments: &[OsString], input: Stdio) -> Option<u6
     number.split_whitespace().next()?.parse().ok()
 }
 
-/// A figure for a column, or a dash.
-pub fn shown(figure: Option<f64>) -> String {
-    figure.map_or_else(|| "-".to_string(), |figure| format!("{figure:.1}"))
+/// A figure for a column, with so many places, or a dash.
+pub fn shown(figure: Option<f64>, places: usize) -> String {
+    figure.map_or_else(|| "-".to_string(), |figure| format!("{figure:.places$}"))
 }

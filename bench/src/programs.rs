@@ -35,7 +35,7 @@ pub fn measure(proved: &OsStr, reference: &OsStr) -> io::Result<()> {
         );
         let instructions = |program| -> io::Result<String> {
             let counted = count(program, &[], file.open()?.into());
-            Ok(shown(counted.map(|counted| counted as f64 / 1e6)))
+            Ok(shown(counted.map(|counted| counted as f64 / 1e6), 1))
         };
         println!(
             "  {name:38} {:>10.3} {:>14.3} {:>7.2} {:>30} {:>11}",

@@ -1,7 +1,8 @@
 //! Events a second and instructions an event: the library's calls, and the reference's on the same list.
 
-use crate::instructions::{count, shown};
+use crate::instructions::shown;
 use crate::rounds::take_turns;
+use crate::{instructions, waits};
 use differential::Image;
 use reference::generator::{random_events, Random, FLAVOURS};
 use reference::{Event, Outcome, Service, REPORT_LENGTH};
@@ -12,8 +13,9 @@ use std::time::Duration;
 
 const ROUNDS: usize = 25;
 const EVENTS: usize = 400_000;
-/// Fewer events are enough to count instructions, which takes long.
+/// Fewer events are enough to count instructions, which takes long, and loads, which takes longer.
 const COUNTED_EVENTS: usize = 40_000;
+const TRACED_EVENTS: usize = 2_000;
 
 /// One call on a list of events, as both sides have it.
 struct Row {
@@ -54,7 +56,9 @@ pub fn measure(program: &OsStr) {
         "\nServices: one new service and {EVENTS} random events, as many of each flavour, or for a panel \
          keyboard bytes with functions 01 and 00 at every eighth; medians of {ROUNDS} rounds"
     );
-    println!("  call             proved M/s   reference M/s   ratio   instructions an event: proved   reference");
+    println!("  call             proved M/s   reference M/s   ratio   instructions an event: proved   reference   loads that wait: proved   reference");
+    let instructions = |words: &[OsString]| instructions::count(program, words, Stdio::null());
+    let waits = |words: &[OsString]| waits::count(program, words);
     for (number, row) in ROWS.iter().enumerate() {
         let events = (row.events)(EVENTS);
         assert!((row.agree)(&events), "both sides show the same");
@@ -65,41 +69,52 @@ pub fn measure(program: &OsStr) {
         );
         let millions = |time: Duration| events.len() as f64 / time.as_secs_f64() / 1e6;
         println!(
-            "  {:15} {:>11.1} {:>15.1} {:>7.2} {:>31} {:>11}",
+            "  {:15} {:>11.1} {:>15.1} {:>7.2} {:>31} {:>11} {:>25} {:>11}",
             row.name,
             millions(medians.proved),
             millions(medians.reference),
             medians.ratio(),
-            shown(instructions(program, number, "proved")),
-            shown(instructions(program, number, "reference")),
+            shown(an_event(number, "proved", COUNTED_EVENTS, instructions), 1),
+            shown(
+                an_event(number, "reference", COUNTED_EVENTS, instructions),
+                1
+            ),
+            shown(an_event(number, "proved", TRACED_EVENTS, waits), 3),
+            shown(an_event(number, "reference", TRACED_EVENTS, waits), 3),
         );
     }
 }
 
-/// Instructions an event: what a second round adds.
-fn instructions(program: &OsStr, row: usize, side: &str) -> Option<f64> {
+/// What a second round adds to a count, for each event of the list.
+fn an_event(
+    row: usize,
+    side: &str,
+    events: usize,
+    count: impl Fn(&[OsString]) -> Option<u64>,
+) -> Option<f64> {
     let counted = |rounds: usize| {
         let words = [
             "rounds".into(),
             row.to_string(),
             side.into(),
             rounds.to_string(),
+            events.to_string(),
         ];
-        count(program, &words.map(OsString::from), Stdio::null())
+        count(&words.map(OsString::from))
     };
-    let events = (ROWS[row].events)(COUNTED_EVENTS).len();
+    let events = (ROWS[row].events)(events).len();
     Some((counted(2)? - counted(1)?) as f64 / events as f64)
 }
 
-/// Runs rounds of a row on one side, and nothing else: what callgrind counts.
-pub fn run_rounds(row: usize, side: &str, rounds: usize) {
+/// Runs rounds of a row on one side, and nothing else: what valgrind counts.
+pub fn run_rounds(row: usize, side: &str, rounds: usize, events: usize) {
     let row = &ROWS[row];
     let run = if side == "proved" {
         row.proved
     } else {
         row.reference
     };
-    let events = (row.events)(COUNTED_EVENTS);
+    let events = (row.events)(events);
     for _ in 0..rounds {
         run(&events);
     }

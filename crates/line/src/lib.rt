@@ -12,15 +12,15 @@ pub enum Kind {
 
 // A command that runs.
 pub struct Command {
+    // the second byte is under way, not the first
+    pub operand: bool,
     pub kind: Kind,
     // its second byte, fixed at the start
     pub value: u8,
-    // the second byte is under way, not the first
-    pub operand: bool,
-    // sends of the byte under way
-    pub sends: u8,
     // bytes sent since the start
     pub sent: u8,
+    // sends of the byte under way
+    pub sends: u8,
 }
 
 // A command awaits the reply to a send, or is ready for the poll that sends.
@@ -38,19 +38,19 @@ pub enum Setting {
 
 // What byte 97 shows of the past.
 pub struct Marks {
-    pub acknowledged: bool,
-    pub abandoned: bool,
     pub done: u8,
     pub resend: bool,
+    pub abandoned: bool,
+    pub acknowledged: bool,
 }
 
 pub struct Line {
+    pub phase: Phase,
+    pub marks: Marks,
     // the rate that waits for its command
     pub rate: Setting,
     // the last LED value that was done or given up
     pub handled: Setting,
-    pub phase: Phase,
-    pub marks: Marks,
 }
 
 // What an idle poll starts: a command with its operand, or nothing.

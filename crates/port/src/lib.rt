@@ -36,23 +36,23 @@ pub struct Held {
 
 // What belongs to one port. `sum` is the Alt sum.
 pub struct Port {
-    pub held: Held,
-    pub modifiers: Modifiers,
     pub prefix: Prefix,
+    pub modifiers: Modifiers,
+    pub held: Held,
     pub sum: u8,
 }
 
 pub struct Locks {
     pub scroll: bool,
-    pub num: bool,
     pub caps: bool,
     pub insert: bool,
+    pub num: bool,
 }
 
 // What all ports share.
 pub struct Shared {
-    pub locks: Locks,
     pub paused: bool,
+    pub locks: Locks,
 }
 
 // What a byte asks of the service.

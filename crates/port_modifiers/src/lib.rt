@@ -1,6 +1,8 @@
 // Step 4: modifiers, held bits and locks.
 ghost use mathlib.Core.Path.{_≡_};
+ghost use Prim.Native.Nat.{_<_};
 ghost use Rattle.port.specs.Flags.{modifiersAfter, heldAfter, locksAfter, flagsChanged};
+ghost use Rattle.port_modifiers.specs.Named.{isKey, isNamed};
 use port::Code;
 use port::Decoded;
 use port::Effect;
@@ -10,6 +12,7 @@ use port::Modifiers;
 use port::Port;
 use port::Shared;
 use port::Sides;
+use word::ScanCode;
 
 fn modifiers_after(modifiers: Modifiers, code: Code) -> Modifiers
     ensures { λ r. ⌜ r ≡ modifiersAfter modifiers code ⌝ }
@@ -64,10 +67,36 @@ fn locks_after(locks: Locks, held: Held, code: Code) -> Locks
     }
 }
 
-// A code without a row.
+// A key by its make and its break.
+fn is_key(scan: ScanCode, make: u8) -> bool
+    requires { ⌜ make < 0x80 ⌝ }
+    ensures { λ r. ⌜ r ≡ isKey make scan ⌝ }
+{
+    scan.is(make) | scan.is(make + 0x80)
+}
+
+// Whether step 4 names the code.
+fn is_named(scan: ScanCode) -> bool
+    ensures { λ r. ⌜ r ≡ isNamed scan ⌝ }
+{
+    is_key(scan, 0x2A)
+        | is_key(scan, 0x36)
+        | is_key(scan, 0x1D)
+        | is_key(scan, 0x38)
+        | is_key(scan, 0x3A)
+        | is_key(scan, 0x45)
+        | is_key(scan, 0x46)
+        | is_key(scan, 0x54)
+        | scan.is(0xD2)
+}
+
+// A code without a row. Most are breaks of keys with one, and change nothing.
 pub fn changed(port: Port, shared: Shared, code: Code) -> Decoded
     ensures { λ r. ⌜ r ≡ flagsChanged port shared code ⌝ }
 {
+    if !is_named(code.scan) {
+        return port::result(port, shared, Effect::Nothing);
+    }
     let modifiers = modifiers_after(port.modifiers, code);
     let held = held_after(port.held, code);
     let locks = locks_after(shared.locks, port.held, code);

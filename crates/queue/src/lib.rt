@@ -11,9 +11,9 @@ const PLACES: usize = 16;
 
 // The words from the place `head` on, `count` of them, round the first 15 places.
 pub struct Queue {
+    pub count: usize,
     pub words: [Word; PLACES],
     pub head: usize,
-    pub count: usize,
 }
 
 // The oldest word of a queue, if it has one.

@@ -11,10 +11,10 @@ pub mod status;
 
 // The order of the fields is that in which a copy is cheapest; it means nothing.
 pub struct Service {
-    pub shared: Shared,
     pub port: Port,
-    pub line: Line,
+    pub shared: Shared,
     pub queue: Queue,
+    pub line: Line,
 }
 
 // A service made from lock bits. With refusal 1, for bits above 15, it is the service of bits 0.

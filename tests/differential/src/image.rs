@@ -3,51 +3,72 @@
 use reference::{Event, Outcome};
 
 /// Bytes of a service as the library keeps it.
-pub const IMAGE_LENGTH: usize = 80;
+pub const IMAGE_LENGTH: usize = 64;
 
 /// Where each number of a service stands in those bytes, as the header says.
 pub mod place {
-    pub const SCROLL_LOCK: usize = 0;
-    pub const NUM_LOCK: usize = 1;
-    pub const CAPS_LOCK: usize = 2;
-    pub const INSERT: usize = 3;
-    pub const PAUSED: usize = 4;
-    pub const SCROLL_HELD: usize = 5;
-    pub const NUM_HELD: usize = 6;
-    pub const CAPS_HELD: usize = 7;
-    pub const INSERT_HELD: usize = 8;
-    pub const SYSREQ_HELD: usize = 9;
-    pub const LEFT_SHIFT: usize = 10;
-    pub const RIGHT_SHIFT: usize = 11;
-    pub const LEFT_CTRL: usize = 12;
-    pub const RIGHT_CTRL: usize = 13;
-    pub const LEFT_ALT: usize = 14;
-    pub const RIGHT_ALT: usize = 15;
-    pub const PREFIX: usize = 16;
-    pub const ALT_SUM: usize = 17;
-    pub const RATE_KNOWN: usize = 18;
-    pub const RATE: usize = 19;
-    pub const HANDLED_KNOWN: usize = 20;
-    pub const HANDLED: usize = 21;
-    pub const PHASE: usize = 22;
-    pub const KIND: usize = 23;
-    pub const VALUE: usize = 24;
-    pub const OPERAND: usize = 25;
-    pub const SENDS: usize = 26;
-    pub const SENT: usize = 27;
-    pub const ACKNOWLEDGED: usize = 28;
-    pub const ABANDONED: usize = 29;
-    pub const DONE: usize = 30;
-    pub const RESEND: usize = 31;
+    pub const BYTE_17: usize = 0;
+    pub const BYTE_18: usize = 1;
+    pub const BYTE_96: usize = 2;
+    pub const BYTE_97: usize = 3;
+    pub const PREFIX: usize = 4;
+    pub const ALT_SUM: usize = 5;
+    pub const RATE_KNOWN: usize = 6;
+    pub const RATE: usize = 7;
+    pub const HANDLED_KNOWN: usize = 8;
+    pub const HANDLED: usize = 9;
+    pub const PHASE: usize = 10;
+    pub const KIND: usize = 11;
+    pub const VALUE: usize = 12;
+    pub const OPERAND: usize = 13;
+    pub const SENDS: usize = 14;
+    pub const SENT: usize = 15;
     /// Sixteen words of a scan code and an ASCII byte.
-    pub const WORDS: usize = 32;
+    pub const WORDS: usize = 16;
     /// Eight bytes each, the lowest first.
-    pub const HEAD: usize = 64;
-    pub const COUNT: usize = 72;
+    pub const HEAD: usize = 48;
+    pub const COUNT: usize = 56;
 }
 
-/// A service in memory that the caller lends. The library gives each of its bytes a meaning,
-/// so any bytes may be lent.
+/// The bits of the flag bytes, each with the place of its byte.
+pub mod flag {
+    use super::place::{BYTE_17, BYTE_18, BYTE_96, BYTE_97};
+
+    pub const RIGHT_SHIFT: (usize, u8) = (BYTE_17, 0x01);
+    pub const LEFT_SHIFT: (usize, u8) = (BYTE_17, 0x02);
+    /// Either Ctrl, and either Alt.
+    pub const CTRL: (usize, u8) = (BYTE_17, 0x04);
+    pub const ALT: (usize, u8) = (BYTE_17, 0x08);
+    pub const SCROLL_LOCK: (usize, u8) = (BYTE_17, 0x10);
+    pub const NUM_LOCK: (usize, u8) = (BYTE_17, 0x20);
+    pub const CAPS_LOCK: (usize, u8) = (BYTE_17, 0x40);
+    pub const INSERT: (usize, u8) = (BYTE_17, 0x80);
+    pub const LEFT_CTRL: (usize, u8) = (BYTE_18, 0x01);
+    pub const LEFT_ALT: (usize, u8) = (BYTE_18, 0x02);
+    pub const SYSREQ_HELD: (usize, u8) = (BYTE_18, 0x04);
+    pub const PAUSED: (usize, u8) = (BYTE_18, 0x08);
+    pub const SCROLL_HELD: (usize, u8) = (BYTE_18, 0x10);
+    pub const NUM_HELD: (usize, u8) = (BYTE_18, 0x20);
+    pub const CAPS_HELD: (usize, u8) = (BYTE_18, 0x40);
+    pub const INSERT_HELD: (usize, u8) = (BYTE_18, 0x80);
+    pub const E1_OPEN: (usize, u8) = (BYTE_96, 0x01);
+    pub const E0_OPEN: (usize, u8) = (BYTE_96, 0x02);
+    pub const RIGHT_CTRL: (usize, u8) = (BYTE_96, 0x04);
+    pub const RIGHT_ALT: (usize, u8) = (BYTE_96, 0x08);
+    pub const SCROLL_DONE: (usize, u8) = (BYTE_97, 0x01);
+    pub const NUM_DONE: (usize, u8) = (BYTE_97, 0x02);
+    pub const CAPS_DONE: (usize, u8) = (BYTE_97, 0x04);
+    pub const ACKNOWLEDGED: (usize, u8) = (BYTE_97, 0x10);
+    pub const RESEND: (usize, u8) = (BYTE_97, 0x20);
+    pub const LED_COMMAND_RUNS: (usize, u8) = (BYTE_97, 0x40);
+    pub const GIVEN_UP: (usize, u8) = (BYTE_97, 0x80);
+
+    /// The bits that are read. The others follow from these, the prefix and the command, or have
+    /// no meaning.
+    pub const READ: [u8; 4] = [0xF3, 0xFF, 0x0C, 0xB7];
+}
+
+/// A service in memory that the caller lends. Any bytes mean some service, so any may be lent.
 #[repr(C, align(8))]
 #[derive(Clone, Debug, PartialEq, Eq)]
 pub struct Image {
@@ -126,9 +147,15 @@ impl Image {
         unsafe { xiquepazo_resynchronise(self) }.into()
     }
 
-    /// Flag bytes 17, 18, 96 and 97.
+    /// Flag bytes 17, 18, 96 and 97, as the call for them reads them.
     pub fn flag_bytes(&self) -> [u8; 4] {
         unsafe { xiquepazo_flags(self) }.bytes
+    }
+
+    /// The four bytes where the flag bytes stand.
+    pub fn first_bytes(&self) -> [u8; 4] {
+        let [byte_17, byte_18, byte_96, byte_97, ..] = self.bytes;
+        [byte_17, byte_18, byte_96, byte_97]
     }
 }
 

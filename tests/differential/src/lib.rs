@@ -7,4 +7,4 @@
 
 mod image;
 
-pub use image::{place, read, Image, Reading, Tagged, IMAGE_LENGTH};
+pub use image::{flag, place, read, Image, Reading, Tagged, IMAGE_LENGTH};

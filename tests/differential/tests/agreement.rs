@@ -1,6 +1,6 @@
 //! Every event through the library shows what the reference shows: answer, word, flag bytes, bytes
 //! sent, refusal and the 44 bytes of its report. Run alone or with its report, it leaves the same
-//! image.
+//! image, and the first four bytes of that are the flag bytes.
 //!
 //! The lists are random, of every flavour and from every setting of the locks, and then those of
 //! the reference's generator, which try each rule. Where the two sides differ, the list is cut down
@@ -54,6 +54,9 @@ fn seen_of_library(image: &mut Image, event: &Event) -> Result<Seen, String> {
     let refusal = reported.report(event, &mut report);
     if reported != *image {
         return Err("`report` leaves another image than `event`".to_string());
+    }
+    if image.first_bytes() != image.flag_bytes() {
+        return Err("the image does not begin with its flag bytes".to_string());
     }
     Ok(Seen {
         outcome,

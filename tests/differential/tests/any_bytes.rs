@@ -1,31 +1,25 @@
-//! Any 80 bytes are a service: no image makes a call fail, or answer otherwise a second time. What a
+//! Any 64 bytes are a service: no image makes a call fail, or answer otherwise a second time. What a
 //! call leaves is in the one form that the library writes, with every number in its range, and shows
-//! the same as what was lent.
+//! the same as what was lent; its first four bytes are the flag bytes that the call showed. Bits that
+//! the header says are not read change nothing.
 
-use differential::{place, Image, IMAGE_LENGTH};
+use differential::place::*;
+use differential::{flag, Image, IMAGE_LENGTH};
 use reference::generator::{random_events, Random, FLAVOURS};
 use reference::{report, Event, REPORT_LENGTH};
 
 const IMAGES: usize = 200_000;
 const EVENTS: usize = 10;
 
-/// The most that a number of one byte can be in what a call leaves; 1 for a flag. A command's value
-/// is looked at by its kind, and words and the Alt sum may be anything.
-const MOST: [(usize, u8); 14] = [
-    (place::PREFIX, 4),
-    (place::RATE_KNOWN, 1),
-    (place::RATE, 127),
-    (place::HANDLED_KNOWN, 1),
-    (place::HANDLED, 7),
-    (place::PHASE, 2),
-    (place::KIND, 1),
-    (place::OPERAND, 1),
-    (place::SENDS, 3),
-    (place::SENT, 6),
-    (place::ACKNOWLEDGED, 1),
-    (place::ABANDONED, 1),
-    (place::DONE, 7),
-    (place::RESEND, 1),
+/// The most that numbers of one byte are read as; the phase and the prefix are looked at apart, and
+/// words and the Alt sum may be anything.
+const MOST: [(usize, u8); 6] = [
+    (RATE_KNOWN, 1),
+    (HANDLED_KNOWN, 1),
+    (KIND, 1),
+    (OPERAND, 1),
+    (SENDS, 3),
+    (SENT, 6),
 ];
 
 fn any_image(random: &mut Random) -> Image {
@@ -52,44 +46,107 @@ fn any_image(random: &mut Random) -> Image {
     image
 }
 
+/// The bits that the header says are not read of these bytes.
+fn unread(bytes: &[u8; IMAGE_LENGTH]) -> [u8; IMAGE_LENGTH] {
+    let mut bits = [0; IMAGE_LENGTH];
+    for (place, read) in flag::READ.into_iter().enumerate() {
+        bits[place] = !read;
+    }
+    bits[RATE] = [0x80, 0xFF][usize::from(bytes[RATE_KNOWN] == 0)];
+    bits[HANDLED] = [0xF8, 0xFF][usize::from(bytes[HANDLED_KNOWN] == 0)];
+    match bytes[PHASE] {
+        1 | 2 => bits[VALUE] = [0x80, 0xF8][usize::from(bytes[KIND] == 0)],
+        _ => bits[KIND..=SENT].fill(0xFF),
+    }
+    bits
+}
+
+/// The flags that follow from the other numbers, where these are in range.
+fn following(bytes: &[u8; IMAGE_LENGTH]) -> [((usize, u8), bool); 5] {
+    let on = |(place, bit): (usize, u8)| bytes[place] & bit != 0;
+    [
+        (flag::CTRL, on(flag::LEFT_CTRL) || on(flag::RIGHT_CTRL)),
+        (flag::ALT, on(flag::LEFT_ALT) || on(flag::RIGHT_ALT)),
+        (flag::E0_OPEN, bytes[PREFIX] == 1),
+        (flag::E1_OPEN, bytes[PREFIX] > 1),
+        (flag::LED_COMMAND_RUNS, bytes[PHASE] > 0 && bytes[KIND] == 0),
+    ]
+}
+
+fn number_at(bytes: &[u8; IMAGE_LENGTH], start: usize) -> u64 {
+    u64::from_le_bytes(bytes[start..start + 8].try_into().unwrap())
+}
+
+/// What the header says that these bytes mean, in the form that the library writes.
+fn meant(image: &Image) -> Image {
+    let mut bytes = image.bytes;
+    for (byte, bits) in bytes.iter_mut().zip(unread(&image.bytes)) {
+        *byte &= !bits;
+    }
+    for (place, most) in MOST {
+        bytes[place] = bytes[place].min(most);
+    }
+    for (place, most) in [(PREFIX, 4), (PHASE, 2)] {
+        if bytes[place] > most {
+            bytes[place] = 0;
+        }
+    }
+    let head = number_at(&bytes, HEAD);
+    let head = if head > 14 { 0 } else { head };
+    let count = number_at(&bytes, COUNT).min(15);
+    bytes[HEAD..HEAD + 8].copy_from_slice(&head.to_le_bytes());
+    bytes[COUNT..COUNT + 8].copy_from_slice(&count.to_le_bytes());
+    for ((place, bit), on) in following(&bytes) {
+        if on {
+            bytes[place] |= bit;
+        }
+    }
+    Image { bytes }
+}
+
 /// The same service in the library's form: a status call changes nothing else.
 fn in_form(mut image: Image) -> Image {
     assert_eq!(image.call(0x02, 0, 0).ans, 0x0A);
     image
 }
 
-fn in_range(image: &Image) -> bool {
-    let number = |start: usize| {
-        let bytes = image.bytes[start..start + 8].try_into().unwrap();
-        u64::from_le_bytes(bytes)
-    };
-    let most_value = [7, 127][usize::from(image.bytes[place::KIND])];
-    image.bytes[..place::PREFIX].iter().all(|&flag| flag <= 1)
-        && MOST.iter().all(|&(place, most)| image.bytes[place] <= most)
-        && image.bytes[place::VALUE] <= most_value
-        && number(place::HEAD) <= 14
-        && number(place::COUNT) <= 15
+/// The same image but for bits that are not read.
+fn with_other_unread_bits(image: &Image, random: &mut Random) -> Image {
+    let mut other = image.clone();
+    for (byte, bits) in other.bytes.iter_mut().zip(unread(&image.bytes)) {
+        *byte ^= random.byte() & bits;
+    }
+    other
 }
 
-fn check_event(image: &mut Image, event: &Event) {
+fn check_event(image: &mut Image, event: &Event, random: &mut Random) {
     let before = image.clone();
     let (mut again, mut formed, mut reported) =
         (before.clone(), in_form(before.clone()), before.clone());
+    let lent = with_other_unread_bits(&before, random);
+    let mut other = lent.clone();
+    assert_eq!(formed, meant(&before));
     // Read twice, it is what it was read as once.
-    assert!(in_range(&formed));
     assert_eq!(in_form(formed.clone()), formed);
-    assert_eq!(before.flag_bytes(), formed.flag_bytes());
+    assert_eq!(before.flag_bytes(), formed.first_bytes());
+    assert_eq!(formed.flag_bytes(), formed.first_bytes());
+    assert_eq!(other.flag_bytes(), formed.first_bytes());
 
     let outcome = image.event(event);
     assert_eq!(again.event(event), outcome);
     assert_eq!(again, *image);
     assert_eq!(image.flag_bytes(), outcome.flags);
     assert_eq!(formed.event(event), outcome);
+    assert_eq!(formed.first_bytes(), outcome.flags);
+    assert_eq!(other.event(event), outcome);
     if outcome.ans < 0x80 {
-        assert!(in_range(image));
+        assert_eq!(*image, meant(image));
+        assert_eq!(image.first_bytes(), outcome.flags);
         assert_eq!(formed, *image);
+        assert_eq!(other, *image);
     } else {
         assert_eq!(before, *image);
+        assert_eq!(lent, other);
     }
 
     let mut text = [0; REPORT_LENGTH];
@@ -110,9 +167,12 @@ fn any_bytes_are_a_service() {
         let lent = image.clone();
         let flavour = FLAVOURS[number % FLAVOURS.len()];
         for event in random_events(&mut random, flavour, EVENTS) {
-            check_event(&mut image, &event);
+            check_event(&mut image, &event, &mut random);
         }
-        let mut made = lent;
+        let (mut settled, mut made) = (lent.clone(), lent);
+        let locks = settled.flag_bytes()[0] >> 4;
+        assert_eq!(settled.resynchronise().flags, [locks << 4, 0, 0, 0]);
+        assert_eq!(Ok(settled), Image::new(locks));
         assert_eq!(made.make(5), 0);
         assert_eq!(Ok(made), Image::new(5));
     }

@@ -1,65 +1,114 @@
-//! Every number of a service stands where the header says: events that change few numbers change
-//! the bytes at their places and no others.
+//! Every number of a service stands where the header says, and every flag in its bit: events that
+//! change few of them change the bytes at their places and no others. A flag is read from the bit
+//! that it is written to, and the other bits of the flag bytes are not read.
 
+use differential::flag::*;
 use differential::place::*;
-use differential::Image;
+use differential::{Image, IMAGE_LENGTH};
 use reference::Event::{self, Call, Empty, Key, Poll, Restart};
 
-/// Events on a new service with no lock on, and the bytes that are not 0 after them.
-fn changes() -> Vec<(Vec<Event>, Vec<(usize, u8)>)> {
-    let keys = |bytes: &[u8]| bytes.iter().map(|&byte| Key(byte)).collect::<Vec<_>>();
-    let polled = |replies: &[u8]| {
-        let reply = |&byte: &u8| [Poll, Key(byte)];
-        replies.iter().flat_map(reply).collect::<Vec<_>>()
-    };
-    let led = (HANDLED_KNOWN, 1);
-    let caps = (CAPS_LOCK, 1);
-    let running = |rest: &[(usize, u8)]| [&[caps, (VALUE, 4)], rest].concat();
-    let capital = |rest: Vec<Event>| [keys(&[0x3A, 0xBA]), rest].concat();
-    let rate = |rest: Vec<Event>| [vec![Poll, Key(0xFA), Poll, Key(0xFA), Call(0x03, 2, 5)], rest].concat();
+/// The bits of the flag bytes that have a meaning.
+const MEANT: [u8; 4] = [0xFF, 0xFF, 0x0F, 0xF7];
+
+/// Events on a new service with no lock on, and the numbers and flags that are not 0 after them.
+type Change = (Vec<Event>, Vec<(usize, u8)>);
+
+fn keys(bytes: &[u8]) -> Vec<Event> {
+    bytes.iter().map(|&byte| Key(byte)).collect()
+}
+
+/// Each reply after a poll.
+fn polled(replies: &[u8]) -> Vec<Event> {
+    let reply = |&byte: &u8| [Poll, Key(byte)];
+    replies.iter().flat_map(reply).collect()
+}
+
+/// Changes of keys, locks and prefixes.
+fn changes_by_keys() -> Vec<Change> {
     vec![
-        (keys(&[0xE1, 0x1D, 0x45]), vec![(PAUSED, 1)]),
-        (keys(&[0x46]), vec![(SCROLL_LOCK, 1), (SCROLL_HELD, 1)]),
-        (keys(&[0x46, 0xC6]), vec![(SCROLL_LOCK, 1)]),
-        (keys(&[0x45]), vec![(NUM_LOCK, 1), (NUM_HELD, 1)]),
-        (keys(&[0x45, 0xC5]), vec![(NUM_LOCK, 1)]),
-        (keys(&[0x3A]), vec![caps, (CAPS_HELD, 1)]),
-        (keys(&[0x3A, 0xBA]), vec![caps]),
-        ([keys(&[0x52]), vec![Empty]].concat(), vec![(INSERT, 1), (INSERT_HELD, 1)]),
-        ([keys(&[0x52, 0xD2]), vec![Empty]].concat(), vec![(INSERT, 1)]),
-        (keys(&[0x54]), vec![(SYSREQ_HELD, 1)]),
-        (keys(&[0x2A]), vec![(LEFT_SHIFT, 1)]),
-        (keys(&[0x36]), vec![(RIGHT_SHIFT, 1)]),
-        (keys(&[0x1D]), vec![(LEFT_CTRL, 1)]),
-        (keys(&[0xE0, 0x1D]), vec![(RIGHT_CTRL, 1)]),
-        (keys(&[0x38]), vec![(LEFT_ALT, 1)]),
-        (keys(&[0xE0, 0x38]), vec![(RIGHT_ALT, 1)]),
-        (keys(&[0xE0]), vec![(PREFIX, 1)]),
-        (keys(&[0xE1]), vec![(PREFIX, 2)]),
-        (keys(&[0xE1, 0x1D]), vec![(PREFIX, 3)]),
-        (keys(&[0xE1, 0x9D]), vec![(PREFIX, 4)]),
-        (keys(&[0x38, 0x4B]), vec![(LEFT_ALT, 1), (ALT_SUM, 4)]),
+        (keys(&[0xE1, 0x1D, 0x45]), vec![PAUSED]),
+        (keys(&[0x46]), vec![SCROLL_LOCK, SCROLL_HELD]),
+        (keys(&[0x46, 0xC6]), vec![SCROLL_LOCK]),
+        (keys(&[0x46, 0xC6, 0x46]), vec![SCROLL_HELD]),
+        (keys(&[0x45]), vec![NUM_LOCK, NUM_HELD]),
+        (keys(&[0x45, 0xC5]), vec![NUM_LOCK]),
+        (keys(&[0x45, 0xC5, 0x45]), vec![NUM_HELD]),
+        (keys(&[0x3A]), vec![CAPS_LOCK, CAPS_HELD]),
+        (keys(&[0x3A, 0xBA]), vec![CAPS_LOCK]),
+        (keys(&[0x3A, 0xBA, 0x3A]), vec![CAPS_HELD]),
+        (
+            [keys(&[0x52]), vec![Empty]].concat(),
+            vec![INSERT, INSERT_HELD],
+        ),
+        ([keys(&[0x52, 0xD2]), vec![Empty]].concat(), vec![INSERT]),
+        (
+            [keys(&[0x52, 0xD2, 0x52]), vec![Empty]].concat(),
+            vec![INSERT_HELD],
+        ),
+        (keys(&[0x54]), vec![SYSREQ_HELD]),
+        (keys(&[0x2A]), vec![LEFT_SHIFT]),
+        (keys(&[0x36]), vec![RIGHT_SHIFT]),
+        (keys(&[0x1D]), vec![LEFT_CTRL, CTRL]),
+        (keys(&[0xE0, 0x1D]), vec![RIGHT_CTRL, CTRL]),
+        (keys(&[0x38]), vec![LEFT_ALT, ALT]),
+        (keys(&[0xE0, 0x38]), vec![RIGHT_ALT, ALT]),
+        (keys(&[0xE0]), vec![(PREFIX, 1), E0_OPEN]),
+        (keys(&[0xE1]), vec![(PREFIX, 2), E1_OPEN]),
+        (keys(&[0xE1, 0x1D]), vec![(PREFIX, 3), E1_OPEN]),
+        (keys(&[0xE1, 0x9D]), vec![(PREFIX, 4), E1_OPEN]),
+        (keys(&[0x38, 0x4B]), vec![LEFT_ALT, ALT, (ALT_SUM, 4)]),
+    ]
+}
+
+/// Changes of the line and of the queue.
+fn changes_by_other_events() -> Vec<Change> {
+    let locked = |key: u8, rest: Vec<Event>| [keys(&[key, key + 0x80]), rest].concat();
+    let capital = |rest: Vec<Event>| locked(0x3A, rest);
+    let running =
+        |rest: &[(usize, u8)]| [&[CAPS_LOCK, LED_COMMAND_RUNS, (VALUE, 4)], rest].concat();
+    let handled =
+        |value: u8, rest: &[(usize, u8)]| [&[(HANDLED_KNOWN, 1), (HANDLED, value)], rest].concat();
+    let rate = |rest: Vec<Event>| [polled(&[0xFA, 0xFA]), vec![Call(0x03, 2, 5)], rest].concat();
+    vec![
         (vec![Call(0x03, 2, 5)], vec![(RATE_KNOWN, 1), (RATE, 69)]),
-        (capital(vec![Poll]), running(&[(PHASE, 1), (SENDS, 1), (SENT, 1)])),
+        (
+            capital(vec![Poll]),
+            running(&[(PHASE, 1), (SENDS, 1), (SENT, 1)]),
+        ),
         (
             capital(polled(&[0xFE])),
-            running(&[(PHASE, 2), (SENDS, 1), (SENT, 1), (RESEND, 1)]),
+            running(&[(PHASE, 2), (SENDS, 1), (SENT, 1), RESEND]),
+        ),
+        (
+            capital(polled(&[0xFE, 0xFA])),
+            running(&[(PHASE, 2), (OPERAND, 1), (SENT, 2), ACKNOWLEDGED]),
         ),
         (
             capital([polled(&[0xFE, 0xFA]), vec![Poll]].concat()),
             running(&[(PHASE, 1), (OPERAND, 1), (SENDS, 1), (SENT, 3)]),
         ),
         (
+            locked(0x46, polled(&[0xFA, 0xFA])),
+            handled(1, &[SCROLL_LOCK, SCROLL_DONE, ACKNOWLEDGED]),
+        ),
+        (
+            locked(0x45, polled(&[0xFA, 0xFA])),
+            handled(2, &[NUM_LOCK, NUM_DONE, ACKNOWLEDGED]),
+        ),
+        (
             capital(polled(&[0xFA, 0xFA])),
-            vec![caps, led, (HANDLED, 4), (ACKNOWLEDGED, 1), (DONE, 4)],
+            handled(4, &[CAPS_LOCK, CAPS_DONE, ACKNOWLEDGED]),
         ),
         (
             capital(polled(&[0xFE, 0xFE, 0xFE])),
-            vec![caps, led, (HANDLED, 4), (ABANDONED, 1), (RESEND, 1)],
+            handled(4, &[CAPS_LOCK, GIVEN_UP, RESEND]),
         ),
         (
             rate(vec![Poll]),
-            vec![led, (PHASE, 1), (KIND, 1), (VALUE, 69), (SENDS, 1), (SENT, 1)],
+            handled(
+                0,
+                &[(PHASE, 1), (KIND, 1), (VALUE, 69), (SENDS, 1), (SENT, 1)],
+            ),
         ),
         (rate(vec![Restart]), vec![]),
         (
@@ -79,19 +128,68 @@ fn changes() -> Vec<(Vec<Event>, Vec<(usize, u8)>)> {
     ]
 }
 
+/// The bytes with these numbers and flags; a byte may have more than one flag.
+fn bytes_with(numbers: &[(usize, u8)]) -> [u8; IMAGE_LENGTH] {
+    let mut bytes = [0; IMAGE_LENGTH];
+    for &(place, number) in numbers {
+        bytes[place] |= number;
+    }
+    bytes
+}
+
+/// The bytes that are not 0, by their places.
+fn standing(bytes: &[u8]) -> Vec<(usize, u8)> {
+    let bytes = bytes.iter().copied().enumerate();
+    bytes.filter(|&(_, byte)| byte != 0).collect()
+}
+
 #[test]
 fn each_number_stands_at_its_place() {
-    for (events, expected) in changes() {
+    let mut seen = [0; 4];
+    for (events, expected) in [changes_by_keys(), changes_by_other_events()].concat() {
         let mut image = Image::new(0).unwrap();
         for event in &events {
             image.event(event);
         }
-        let standing = image.bytes.iter().enumerate();
-        let mut standing: Vec<_> = standing.map(|(place, &byte)| (place, byte)).collect();
-        standing.retain(|&(_, byte)| byte != 0);
-        let mut expected = expected;
-        expected.sort_unstable();
-        assert_eq!(standing, expected, "after {events:?}");
+        let expected = standing(&bytes_with(&expected));
+        assert_eq!(standing(&image.bytes), expected, "after {events:?}");
+        for (seen, byte) in seen.iter_mut().zip(image.first_bytes()) {
+            *seen |= byte;
+        }
+    }
+    assert_eq!(seen, MEANT, "each flag was on after some events");
+}
+
+/// One bit of the flag bytes among zeros: one that is read is that flag, and shown with what follows
+/// from it; one that is not read is none.
+#[test]
+fn each_flag_is_read_from_its_bit() {
+    let following = [
+        (LEFT_CTRL, CTRL),
+        (RIGHT_CTRL, CTRL),
+        (LEFT_ALT, ALT),
+        (RIGHT_ALT, ALT),
+    ];
+    for (place, read) in READ.into_iter().enumerate() {
+        for bit in (0..8).map(|number| 1 << number) {
+            let mut image = Image::new(0).unwrap();
+            image.bytes[place] = bit;
+            let mut expected = vec![(place, bit & read)];
+            for (flag, follower) in following {
+                if flag == (place, bit) {
+                    expected.push(follower);
+                }
+            }
+            let expected = bytes_with(&expected);
+            assert_eq!(
+                image.flag_bytes(),
+                expected[..4],
+                "bit {bit:02X} at {place}"
+            );
+            // A status call writes what was read.
+            image.call(0x02, 0, 0);
+            assert_eq!(standing(&image.bytes), standing(&expected));
+        }
     }
 }
 
