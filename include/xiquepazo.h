@@ -8,7 +8,7 @@
  * must be valid, aligned and not null, and must not overlap. One service is used by one thread at a time; an interrupt handler counts as
  * one. Nothing is kept between calls, so different services may be used at the same time.
  *
- * A call takes less than 2 KB of stack (1,414 bytes measured, by a report) and writes to the registers xmm0 to xmm4, which an interrupt
+ * A call takes less than 2 KB of stack (1,417 bytes measured, by a report) and writes to the registers xmm0 to xmm4, which an interrupt
  * handler that calls the library has to save.
  *
  * Refusals, by who causes them. A refused call leaves the service as it was, byte for byte.

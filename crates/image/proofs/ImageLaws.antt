@@ -9,7 +9,7 @@ use mathlib.Core.List.{List, [], _∷_, map}
 use lib.Dec.{eqb, ltb}
 use borrow.Author.Tests.{lt-ltb, ltb-true}
 use Rattle.bits.specs.Choice.{if_then_else_}
-use Rattle.bits.specs.Bits.{weightOf, byteOf, bit4, bit5, bit7}
+use Rattle.bits.specs.Bits.{weightOf, byteOf}
 use Rattle.bits.proofs.Choice.{by-test, either}
 use Rattle.bits.proofs.Bytes.{digit, Spelt, spelt, digit-read, bits-back, lower-half-raised}
 use Rattle.word.specs.declared.Word.{Word}

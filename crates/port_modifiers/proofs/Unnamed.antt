@@ -3,7 +3,6 @@
 use mathlib.Core.Path.{_≡_, refl, sym}
 use mathlib.Core.Bool.{Bool, true, false, not, _||_, true≢false}
 use Rattle.bits.specs.Choice.{if_then_else_}
-use Rattle.word.specs.declared.ScanCode.{ScanCode}
 use Rattle.word.specs.Word.{isCode}
 use Rattle.port.specs.declared.Code.{Code}
 use Rattle.port.specs.declared.Port.{Port}
@@ -48,7 +47,7 @@ none false false false false false false true h i is = absurd (true≢false is)
 none false false false false false false false true i is = absurd (true≢false is)
 none false false false false false false false false true is = absurd (true≢false is)
 none false false false false false false false false false is =
-    record { left = refl; right = refl; ctrl = refl; alt = refl; caps = refl; num = refl; scroll = refl; sysreq = refl; insert = refl; }
+    record { left = refl; right = refl; ctrl = refl; alt = refl; caps = refl; num = refl; scroll = refl; sysreq = refl; insert = refl }
 
 pub unnamed : (port : Port) (shared : Shared) (code : Code) → isNamed (code .scan) ≡ false → flagsChanged port shared code ≡ resultOf port shared Nothing
 unfolding isNamed flagsChanged modifiersAfter heldAfter locksAfter if_then_else_
