@@ -196,7 +196,7 @@ typedef char xiquepazo_line_stands_at_6
          : -1];
 typedef char xiquepazo_queue_stands_at_16
     [XIQUEPAZO_AT(queue.words[0].scan, 16) && XIQUEPAZO_AT(queue.words[0].ascii, 17) && XIQUEPAZO_AT(queue.words[XIQUEPAZO_WORDS].ascii, 47)
-             && XIQUEPAZO_AT(queue.head, 48) && XIQUEPAZO_AT(queue.count, 56)
+             && XIQUEPAZO_AT(queue.head, 48) && XIQUEPAZO_AT(queue.count, 56) && sizeof(((struct xiquepazo_queue *)0)->words) == 32
          ? 1
          : -1];
 #undef XIQUEPAZO_AT

@@ -11,10 +11,13 @@ use borrow.Author.Tests.{lt-ltb, ltb-true}
 use Rattle.bits.specs.Choice.{if_then_else_}
 use Rattle.bits.specs.Bits.{weightOf, byteOf}
 use Rattle.bits.proofs.Choice.{by-test, either}
-use Rattle.bits.proofs.Bytes.{digit, Spelt, spelt, digit-read, bits-back, lower-half-raised}
+use Rattle.bits.proofs.Bytes.{digit, Spelt, spelt, digit-read, BitsBack, bits-back, lower-half-raised}
 use Rattle.word.specs.declared.Word.{Word}
 use Rattle.port.specs.declared.Prefix.{Prefix}
 use Rattle.port.specs.declared.Prefix.the-variants.{Closed, E0, E1, E1Make, E1Break}
+use Rattle.port.specs.declared.Modifiers.{Modifiers}
+use Rattle.port.specs.declared.Held.{Held}
+use Rattle.port.specs.declared.Locks.{Locks}
 use Rattle.port.specs.State.{eitherSide}
 use Rattle.queue.specs.declared.Queue.{Queue}
 use Rattle.queue.specs.Queue.{capacity, emptyQueue}
@@ -54,34 +57,37 @@ prefix-back E1 = refl
 prefix-back E1Make = refl
 prefix-back E1Break = refl
 
-modifiers-back : (service : Service) → modifiersAt (flagBytesOf service) ≡ service .port .modifiers
-unfolding byte17Of byte18Of byte96Of
-modifiers-back service =
-    let m = service .port .modifiers in
-    let l = service .shared .locks in
-    let h = service .port .held in
-    let in17 = bits-back (m .shift .right) (m .shift .left) (eitherSide (m .ctrl)) (eitherSide (m .alt)) (l .scroll) (l .num) (l .caps) (l .insert) in
-    let in18 = bits-back (m .ctrl .left) (m .alt .left) (h .sysreq) (service .shared .paused) (h .scroll) (h .num) (h .caps) (h .insert) in
-    let in96 = bits-back (e1Open (service .port .prefix)) (e0Open (service .port .prefix)) (m .ctrl .right) (m .alt .right) false false false false in
-    simp (in17 .at0, in17 .at1, in18 .at0, in18 .at1, in96 .at2, in96 .at3)
+-- the bits of three flag bytes, each as it was put in
+module _ (service : Service) where
+  abbrev m : Modifiers
+  m = service .port .modifiers
 
-held-back : (service : Service) → heldAt (flagBytesOf service .byte18) ≡ service .port .held
-unfolding byte18Of
-held-back service =
-    let m = service .port .modifiers in
-    let h = service .port .held in
-    let in18 = bits-back (m .ctrl .left) (m .alt .left) (h .sysreq) (service .shared .paused) (h .scroll) (h .num) (h .caps) (h .insert) in
-    simp (in18 .at2, in18 .at4, in18 .at5, in18 .at6, in18 .at7)
+  abbrev h : Held
+  h = service .port .held
 
-shared-back : (service : Service) → sharedAt (flagBytesOf service) ≡ service .shared
-unfolding byte17Of byte18Of
-shared-back service =
-    let m = service .port .modifiers in
-    let l = service .shared .locks in
-    let h = service .port .held in
-    let in17 = bits-back (m .shift .right) (m .shift .left) (eitherSide (m .ctrl)) (eitherSide (m .alt)) (l .scroll) (l .num) (l .caps) (l .insert) in
-    let in18 = bits-back (m .ctrl .left) (m .alt .left) (h .sysreq) (service .shared .paused) (h .scroll) (h .num) (h .caps) (h .insert) in
-    simp (in17 .at4, in17 .at5, in17 .at6, in17 .at7, in18 .at3)
+  abbrev l : Locks
+  l = service .shared .locks
+
+  in17 : BitsBack (m .shift .right) (m .shift .left) (eitherSide (m .ctrl)) (eitherSide (m .alt)) (l .scroll) (l .num) (l .caps) (l .insert)
+  in17 = bits-back _ _ _ _ _ _ _ _
+
+  in18 : BitsBack (m .ctrl .left) (m .alt .left) (h .sysreq) (service .shared .paused) (h .scroll) (h .num) (h .caps) (h .insert)
+  in18 = bits-back _ _ _ _ _ _ _ _
+
+  in96 : BitsBack (e1Open (service .port .prefix)) (e0Open (service .port .prefix)) (m .ctrl .right) (m .alt .right) false false false false
+  in96 = bits-back _ _ _ _ _ _ _ _
+
+  modifiers-back : modifiersAt (flagBytesOf service) ≡ m
+  unfolding byte17Of byte18Of byte96Of
+  modifiers-back = simp (in17 .at0, in17 .at1, in18 .at0, in18 .at1, in96 .at2, in96 .at3)
+
+  held-back : heldAt (flagBytesOf service .byte18) ≡ h
+  unfolding byte18Of
+  held-back = simp (in18 .at2, in18 .at4, in18 .at5, in18 .at6, in18 .at7)
+
+  shared-back : sharedAt (flagBytesOf service) ≡ service .shared
+  unfolding byte17Of byte18Of
+  shared-back = simp (in17 .at4, in17 .at5, in17 .at6, in17 .at7, in18 .at3)
 
 odd-part : (number digit rest : ℕ) → number ≡ digit + 2 * rest → digit ≤ 1 → number % 2 ≡ digit
 odd-part number digit rest is most = omega arith
