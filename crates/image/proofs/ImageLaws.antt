@@ -1,7 +1,7 @@
 -- An image is read as a service in range, and a service in range comes back from its image, part by part.
 -- Assumes nothing.
 use Prim.Native.Nat.{ℕ, min, _+_, _*_, _/_, _%_, _<_, _≤_}
-use native.Mathlib.Nat.{mod-eq-of-lt}
+use native.Mathlib.Nat.{div-div-eq-div-mul, mod-eq-of-lt}
 use native.Mathlib.Omega.{arith}
 use mathlib.Core.Path.{_≡_, refl, ap}
 use mathlib.Core.Bool.{Bool, true, false}
@@ -39,9 +39,9 @@ use Rattle.state.specs.Flags.{e0Open, e1Open, byte17Of, byte18Of, byte96Of, byt
 use Rattle.image.specs.declared.CommandImage.{CommandImage}
 use Rattle.image.specs.declared.LineImage.{LineImage}
 use Rattle.image.specs.declared.QueueImage.{QueueImage}
-use Rattle.image.specs.ImageFlags.{flagBytesOf, modifiersAt, heldAt, sharedAt, marksAt, prefixNumber, prefixAt}
+use Rattle.image.specs.ImageFlags.{flagBytesOf, modifiersAt, heldAt, sharedAt, prefixNumber, prefixAt}
 use Rattle.image.specs.ImageQueue.{wordImage, wordAtImage, headAt, queueImage, queueAt}
-use Rattle.image.specs.ImageLine.{flagOf, isSet, kindNumber, kindAt, settingImage, settingAt, valueIn, commandImage, commandAt, phaseImage, phaseAt, lineImage, lineAt}
+use Rattle.image.specs.ImageLine.{flagOf, isSet, kindNumber, kindAt, settingImage, settingAt, valueIn, commandImage, commandAt, phaseImage, phaseAt, marksAt, lineImage, lineAt}
 use Rattle.image.specs.Image.{imageOf, portAt, serviceOf, newImage}
 use Rattle.image.specs.ImageLaws.{ReadsInRange, ComesBack, MadeAnew}
 
@@ -86,8 +86,8 @@ module _ (service : Service) where
   held-back = simp (in18 .at2, in18 .at4, in18 .at5, in18 .at6, in18 .at7)
 
   shared-back : sharedAt (flagBytesOf service) ≡ service .shared
-  unfolding byte17Of byte18Of
-  shared-back = simp (in17 .at4, in17 .at5, in17 .at6, in17 .at7, in18 .at3)
+  unfolding byte17Of byte18Of locksOf
+  shared-back = simp (div-div-eq-div-mul, in17 .at4, in17 .at5, in17 .at6, in17 .at7, in18 .at3)
 
 odd-part : (number digit rest : ℕ) → number ≡ digit + 2 * rest → digit ≤ 1 → number % 2 ≡ digit
 odd-part number digit rest is most = omega arith

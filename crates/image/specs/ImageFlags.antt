@@ -1,6 +1,6 @@
--- The flag bytes of a service, and the modifiers, held bits, locks, pause and marks that any four flag bytes mean; prefixes as numbers.
+-- The flag bytes of a service, and the modifiers, held bits, locks and pause that any such bytes mean; prefixes as numbers.
 -- Assumes nothing.
-use Prim.Native.Nat.{ℕ, _%_}
+use Prim.Native.Nat.{ℕ, _/_}
 use lib.Dec.{eqb}
 use Rattle.bits.specs.Choice.{if_then_else_}
 use Rattle.bits.specs.Bits.{bit0, bit1, bit2, bit3, bit4, bit5, bit6, bit7}
@@ -8,11 +8,9 @@ use Rattle.port.specs.declared.Prefix.{Prefix}
 use Rattle.port.specs.declared.Prefix.the-variants.{Closed, E0, E1, E1Make, E1Break}
 use Rattle.port.specs.declared.Modifiers.{Modifiers}
 use Rattle.port.specs.declared.Held.{Held}
-use Rattle.port.specs.declared.Locks.{Locks}
 use Rattle.port.specs.declared.Shared.{Shared}
-use Rattle.line.specs.declared.Marks.{Marks}
-use Rattle.line.specs.Ranges.{ledValues}
 use Rattle.state.specs.declared.Service.{Service}
+use Rattle.state.specs.State.{locksOf}
 use Rattle.state.specs.Flags.{byte17Of, byte18Of, byte96Of, byte97Of}
 use Rattle.image.specs.declared.FlagBytes.{FlagBytes}
 
@@ -39,15 +37,9 @@ heldAt byte18 =
       sysreq = bit2 byte18;
     }
 
-abbrev pub locksAt : ℕ → Locks
-locksAt byte17 = record { scroll = bit4 byte17; num = bit5 byte17; caps = bit6 byte17; insert = bit7 byte17 }
-
+-- the lock bits are the upper half of byte 17
 abbrev pub sharedAt : FlagBytes → Shared
-sharedAt flags = record { locks = locksAt (flags .byte17); paused = bit3 (flags .byte18) }
-
-abbrev pub marksAt : ℕ → Marks
-marksAt byte97 =
-    record { done = byte97 % ledValues; acknowledged = bit4 byte97; resend = bit5 byte97; abandoned = bit7 byte97 }
+sharedAt flags = record { locks = locksOf (flags .byte17 / 16); paused = bit3 (flags .byte18) }
 
 abbrev pub prefixNumber : Prefix → ℕ
 prefixNumber Closed = 0

@@ -4,6 +4,7 @@ use Prim.Native.Nat.{ℕ, min, _%_}
 use mathlib.Core.Bool.{Bool, true, false, not}
 use lib.Dec.{eqb}
 use Rattle.bits.specs.Choice.{if_then_else_}
+use Rattle.bits.specs.Bits.{bit4, bit5, bit7}
 use Rattle.line.specs.declared.Kind.{Kind}
 use Rattle.line.specs.declared.Kind.the-variants.{Led, Rate}
 use Rattle.line.specs.declared.Command.{Command}
@@ -11,12 +12,12 @@ use Rattle.line.specs.declared.Phase.{Phase}
 use Rattle.line.specs.declared.Phase.the-variants.{Idle, Awaiting, Ready}
 use Rattle.line.specs.declared.Setting.{Setting}
 use Rattle.line.specs.declared.Setting.the-variants.{None, Value}
+use Rattle.line.specs.declared.Marks.{Marks}
 use Rattle.line.specs.declared.Line.{Line}
 use Rattle.line.specs.Ranges.{ledValues, rateValues}
 use Rattle.image.specs.declared.CommandImage.{CommandImage}
 use Rattle.image.specs.declared.SettingImage.{SettingImage}
 use Rattle.image.specs.declared.LineImage.{LineImage}
-use Rattle.image.specs.ImageFlags.{marksAt}
 
 -- a flag is 0 or 1, and any other number is read as 1
 abbrev pub flagOf : Bool → ℕ
@@ -78,6 +79,10 @@ phaseAt image =
     if eqb (image .phase) 1 then Awaiting (commandAt image)
     else if eqb (image .phase) 2 then Ready (commandAt image)
     else Idle
+
+abbrev pub marksAt : ℕ → Marks
+marksAt byte97 =
+    record { done = byte97 % ledValues; acknowledged = bit4 byte97; resend = bit5 byte97; abandoned = bit7 byte97 }
 
 unfoldable pub lineImage : Line → LineImage
 lineImage line =

@@ -97,19 +97,19 @@ images-follow image (item ∷ more) =
 
 -- ---- from xiquepazo_make on
 
-pub made-image : (image : Image) (locks : ℕ) → locks ≤ 15 → made image locks ≡ imageOf (newService locks)
+made-image : (image : Image) (locks : ℕ) → locks ≤ 15 → made image locks ≡ imageOf (newService locks)
 unfolding makeOf triedIn if_then_else_
 made-image image locks most =
     let e : makeTo image locks ≡ record { image = imageOf (newService locks); refusal = 0 } = simp (le-ltb _ _ most) in
     ap (λ (refused : Refused). refused .image) e
 
-pub new-back : (locks : ℕ) → serviceOf (imageOf (newService locks)) ≡ newService locks
+new-back : (locks : ℕ) → serviceOf (imageOf (newService locks)) ≡ newService locks
 new-back locks = comes-back (newService locks) (stays-in-range .new locks)
 
 made-new : (image : Image) (locks : ℕ) → locks ≤ 15 → serviceOf (made image locks) ≡ newService locks
 made-new image locks most = ap serviceOf (made-image image locks most) ∙ new-back locks
 
-pub locks-most : (service : Service) → standingLocks service ≤ 15
+locks-most : (service : Service) → standingLocks service ≤ 15
 unfolding byte17Of
 locks-most service = let most : byte17Of service ≤ 255 = byte-most _ _ _ _ _ _ _ _ in omega arith
 

@@ -1,38 +1,26 @@
--- An image newly made with the lock bits that stand, and restarted, is what the all-up run, E and R leave.
+-- The image of a new service with the lock bits that stand, the upper half of byte 17, is what the all-up run, E and R leave.
 -- Assumes nothing.
-use mathlib.Core.Path.{_≡_, refl, ap, sym, _∙_}
-use Rattle.bits.specs.Choice.{if_then_else_}
+use Prim.Native.Nat.{_/_}
+use mathlib.Core.Path.{_≡_, ap, sym, _∙_}
 use Rattle.answers.specs.declared.Answer.the-variants.{Done}
 use Rattle.answers.specs.Answers.{ansOf}
-use Rattle.state.specs.declared.Service.{Service}
 use Rattle.state.specs.State.{newService}
-use Rattle.events.specs.declared.Event.the-variants.{Restart}
-use Rattle.events.specs.Commands.{restartOf}
-use Rattle.events.specs.Step.{stepOf}
-use Rattle.events.specs.Resynchronised.{standingLocks}
-use Rattle.events.proofs.Resynchronised.{resynchronises, locks-stand}
+use Rattle.events.specs.Run.{after}
+use Rattle.events.specs.Resynchronised.{resynchronisation}
+use Rattle.events.proofs.Resynchronised.{only-locks-stay}
 use Rattle.image.specs.declared.Image.{Image}
-use Rattle.image.specs.ImageFlags.{flagBytesOf}
-use Rattle.image.specs.Image.{imageOf, serviceOf}
+use Rattle.image.specs.Image.{imageOf, serviceOf, newImage}
+use Rattle.image.proofs.ImageLaws.{made-anew}
 use Rattle.image_calls.specs.declared.Changed.{Changed}
-use Rattle.image_calls.specs.Exports.{shownWith, shownToC, changedBy, stepIn, recognised, written, eventTo, resynchronisedTo}
-use Rattle.image_calls.specs.CallLists.{made}
-use Rattle.image_calls.proofs.CallLists.{locks-most, made-image, new-back}
+use Rattle.image_calls.specs.Exports.{shownWith, resynchronisedTo}
 
--- a service as it stands, with what an R shows of it
-abbrev shownRestart : Service → Changed
-shownRestart service = record { image = imageOf service; shown = shownWith (flagBytesOf service) (ansOf Done) 0 0 }
+-- an image as it stands, with what an R shows of it
+abbrev pub shownRestart : Image → Changed
+shownRestart image = record { image = image; shown = shownWith (image .flags) (ansOf Done) 0 0 }
 
-new-restarted : (image : Image) (bits : _) → changedBy image (stepOf (newService bits) Restart) ≡ shownRestart (newService bits)
-unfolding stepOf restartOf shownToC if_then_else_ newService
-new-restarted image bits = refl
-
-pub remade-image : (image : Image) → eventTo (made image (standingLocks (serviceOf image))) (written Restart) ≡ resynchronisedTo image
-unfolding stepIn recognised if_then_else_
+pub remade-image : (image : Image) → shownRestart (newImage (image .flags .byte17 / 16)) ≡ resynchronisedTo image
+unfolding imageOf serviceOf newService
 remade-image image =
-    let service = serviceOf image in
-    let bits = standingLocks service in
-    ap (λ (i : Image). eventTo i (written Restart)) (made-image image bits (locks-most service))
-    ∙ ap (λ (s : Service). changedBy (imageOf (newService bits)) (stepOf s Restart)) (new-back bits)
-    ∙ new-restarted _ bits
-    ∙ ap shownRestart (sym (resynchronises service ∙ ap newService (locks-stand service)))
+    let bits = image .flags .byte17 / 16 in
+    let settled : after (serviceOf image) resynchronisation ≡ newService bits = only-locks-stay (serviceOf image) in
+    ap shownRestart (sym (made-anew bits) ∙ ap imageOf (sym settled))

@@ -1,10 +1,8 @@
 // Flag bytes of a service, what they say of its keys and locks, and prefixes as numbers.
 ghost use mathlib.Core.Path.{_≡_};
-ghost use Rattle.image.specs.ImageFlags.{flagBytesOf, modifiersAt, heldAt, locksAt, sharedAt, marksAt, prefixNumber, prefixAt};
+ghost use Rattle.image.specs.ImageFlags.{flagBytesOf, modifiersAt, heldAt, sharedAt, prefixNumber, prefixAt};
 use image::FlagBytes;
-use line::Marks;
 use port::Held;
-use port::Locks;
 use port::Modifiers;
 use port::Prefix;
 use port::Shared;
@@ -54,34 +52,12 @@ pub fn held_of(byte18: u8) -> Held
     }
 }
 
-fn locks_of(byte17: u8) -> Locks
-    ensures { λ r. ⌜ r ≡ locksAt byte17 ⌝ }
-{
-    Locks {
-        scroll: byte17 / 16 % 2 == 1,
-        num: byte17 / 32 % 2 == 1,
-        caps: byte17 / 64 % 2 == 1,
-        insert: byte17 / 128 % 2 == 1,
-    }
-}
-
 pub fn shared_of(flags: FlagBytes) -> Shared
     ensures { λ r. ⌜ r ≡ sharedAt flags ⌝ }
 {
     Shared {
-        locks: locks_of(flags.byte17),
+        locks: state::locks_of(flags.byte17 / 16),
         paused: flags.byte18 / 8 % 2 == 1,
-    }
-}
-
-pub fn marks_of(byte97: u8) -> Marks
-    ensures { λ r. ⌜ r ≡ marksAt byte97 ⌝ }
-{
-    Marks {
-        done: byte97 % 8,
-        acknowledged: byte97 / 16 % 2 == 1,
-        resend: byte97 / 32 % 2 == 1,
-        abandoned: byte97 / 128 % 2 == 1,
     }
 }
 

@@ -1,14 +1,14 @@
 // Lines, to numbers and back. The marks of a line are in byte 97.
 ghost use Prim.Native.Nat.{min, _%_};
 ghost use mathlib.Core.Path.{_≡_};
-ghost use Rattle.image.specs.ImageLine.{kindNumber, kindAt, settingImage, settingAt, valueIn, commandImage, commandAt, phaseImage, phaseAt, lineImage, lineAt};
-use crate::flags_part::marks_of;
+ghost use Rattle.image.specs.ImageLine.{kindNumber, kindAt, settingImage, settingAt, valueIn, commandImage, commandAt, phaseImage, phaseAt, marksAt, lineImage, lineAt};
 use image::CommandImage;
 use image::LineImage;
 use image::SettingImage;
 use line::Command;
 use line::Kind;
 use line::Line;
+use line::Marks;
 use line::Phase;
 use line::Setting;
 
@@ -121,6 +121,17 @@ fn phase_of(image: CommandImage) -> Phase
         return Phase::Ready(command_of(image));
     }
     Phase::Idle
+}
+
+fn marks_of(byte97: u8) -> Marks
+    ensures { λ r. ⌜ r ≡ marksAt byte97 ⌝ }
+{
+    Marks {
+        done: byte97 % LED_VALUES,
+        acknowledged: byte97 / 16 % 2 == 1,
+        resend: byte97 / 32 % 2 == 1,
+        abandoned: byte97 / 128 % 2 == 1,
+    }
 }
 
 pub fn image_of(line: Line) -> LineImage

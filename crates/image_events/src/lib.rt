@@ -1,6 +1,6 @@
-// An event on an image and an image made, by value. A refused call leaves every number of the image.
+// An event on an image, an image made and one resynchronised, by value. A refused call leaves every number of the image.
 ghost use mathlib.Core.Path.{_≡_};
-ghost use Rattle.image_calls.specs.Exports.{shownWith, isUnknown, eventRun, ansIn, ranOf, recognised, eventTo, makeTo};
+ghost use Rattle.image_calls.specs.Exports.{shownWith, isUnknown, eventRun, ansIn, ranOf, recognised, eventTo, makeTo, resynchronisedTo};
 use answers::Answer;
 use events::Event;
 use events::tags;
@@ -115,5 +115,17 @@ pub fn make(image: Image, bits: u8) -> Refused
     Refused {
         image: image_conversion::new(bits),
         refusal: 0,
+    }
+}
+
+// As the all-up run, E and R leave it, with what this R shows: new, but for the lock bits, which are the upper half of byte 17.
+pub fn resynchronise(image: Image) -> Changed
+    ensures { λ r. ⌜ r ≡ resynchronisedTo image ⌝ }
+{
+    let fresh = image_conversion::new(image.flags.byte17 / 16);
+    let flags = fresh.flags;
+    Changed {
+        image: fresh,
+        shown: shown_with(flags, answers::number(Answer::Done), 0, 0),
     }
 }

@@ -1,6 +1,6 @@
 // The service: newly made, after one event of any kind, and resynchronised. Every value of the types has a meaning, so no call asks anything.
 ghost use mathlib.Core.Path.{_≡_};
-ghost use Rattle.state.specs.State.{locksOf, quietOf, newService, makeOf};
+ghost use Rattle.state.specs.State.{quietOf, newService, makeOf};
 ghost use Rattle.events.specs.Step.{emptyOf, stepOf};
 ghost use Rattle.events.specs.Run.{after};
 ghost use Rattle.events.specs.Resynchronised.{resynchronisation};
@@ -12,17 +12,6 @@ use port::Locks;
 use port::Shared;
 use state::Made;
 use state::Service;
-
-fn locks_of(bits: u8) -> Locks
-    ensures { λ r. ⌜ r ≡ locksOf bits ⌝ }
-{
-    Locks {
-        scroll: bits % 2 == 1,
-        num: bits / 2 % 2 == 1,
-        caps: bits / 4 % 2 == 1,
-        insert: bits / 8 % 2 == 1,
-    }
-}
 
 // A service with no key down and no word.
 fn quiet(locks: Locks, paused: bool, line: Line) -> Service
@@ -41,7 +30,7 @@ fn quiet(locks: Locks, paused: bool, line: Line) -> Service
 fn new(bits: u8) -> Service
     ensures { λ r. ⌜ r ≡ newService bits ⌝ }
 {
-    quiet(locks_of(bits), false, line::new())
+    quiet(state::locks_of(bits), false, line::new())
 }
 
 // A service newly made with four lock bits.

@@ -1,7 +1,8 @@
 // The state of the service, and how its flag bytes show it.
 ghost use mathlib.Core.Path.{_≡_};
-ghost use Rattle.state.specs.State.{withQueue, withLine};
+ghost use Rattle.state.specs.State.{locksOf, withQueue, withLine};
 use line::Line;
+use port::Locks;
 use port::Port;
 use port::Shared;
 use queue::Queue;
@@ -21,6 +22,18 @@ pub struct Service {
 pub struct Made {
     pub refusal: u8,
     pub service: Service,
+}
+
+// The locks of four bits.
+pub fn locks_of(bits: u8) -> Locks
+    ensures { λ r. ⌜ r ≡ locksOf bits ⌝ }
+{
+    Locks {
+        scroll: bits % 2 == 1,
+        num: bits / 2 % 2 == 1,
+        caps: bits / 4 % 2 == 1,
+        insert: bits / 8 % 2 == 1,
+    }
 }
 
 // The service with another queue.

@@ -50,7 +50,7 @@ pub extern "C" fn xiquepazo_resynchronise(image: &mut Image) -> Shown
     ensures { λ r. ⌜ (now (image .exit) ≡ resynchronisedTo (now (image .entry)) .image)
         × (r ≡ resynchronisedTo (now (image .entry)) .shown) ⌝ }
 {
-    let changed = over_event::resynchronise(*image);
+    let changed = image_events::resynchronise(*image);
     *image = changed.image;
     changed.shown
 }

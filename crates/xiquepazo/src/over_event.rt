@@ -1,9 +1,8 @@
-// The calls that go over an event: a report, the flag bytes, resynchronising. Each runs the event that C runs, on a copy, so that its code
-// stands in the library once.
+// The calls that go over an event: a report, and the flag bytes. Each runs the event that C runs, on a copy, so that its code stands in the
+// library once.
 ghost use mathlib.Core.Path.{_≡_};
 ghost use Rattle.report.specs.Report.{reportFrom};
-ghost use Rattle.image_calls.specs.Exports.{seen, eventTo, reportTo, writtenTo, flagsTo, resynchronisedTo};
-use events::tags;
+ghost use Rattle.image_calls.specs.Exports.{seen, eventTo, reportTo, writtenTo, flagsTo};
 use image::FlagBytes;
 use image::Image;
 use image_calls::Changed;
@@ -72,20 +71,4 @@ pub fn flag_bytes(image: Image) -> FlagBytes
         byte96: shown.byte96,
         byte97: shown.byte97,
     }
-}
-
-// Newly made with the lock bits that stand; the R shows it.
-pub fn resynchronise(image: Image) -> Changed
-    ensures { λ r. ⌜ r ≡ resynchronisedTo image ⌝ }
-{
-    let flags = flag_bytes(image);
-    let made = image_events::make(image, flags.byte17 / 16);
-    let fresh = made.image;
-    let restart = Tagged {
-        tag: tags::RESTART,
-        a: 0,
-        b: 0,
-        c: 0,
-    };
-    event_on_copy(fresh, restart)
 }

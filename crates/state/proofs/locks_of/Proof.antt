@@ -1,9 +1,9 @@
--- The proof of `service::locks_of`.
+-- The proof of `state::locks_of`.
 -- Assumes nothing.
 use mathlib.Core.Path.{refl}
 use Rattle.state.specs.State.{locksOf}
-use Rattle.service.proofs.locks_of.Statement.{statement}
-use Rattle.service.proofs.locks_of.Tie as tie
+use Rattle.state.proofs.locks_of.Statement.{statement}
+use Rattle.state.proofs.locks_of.Tie as tie
 
 returns : tie.Need-returns
 unfolding locksOf
