@@ -54,13 +54,13 @@ static void feed(struct xiquepazo_service *service, const uint8_t *bytes, size_t
     }
 }
 
-/* Takes the words that wait, oldest first. */
-static void take_words(struct xiquepazo_service *service)
+/* Takes the words that wait, oldest first, as a program that knows enhanced words or as one that does not. */
+static void take_words(struct xiquepazo_service *service, uint8_t take)
 {
-    struct xiquepazo_shown shown = xiquepazo_call(service, XIQUEPAZO_TAKE_WORD, 0, 0);
+    struct xiquepazo_shown shown = xiquepazo_call(service, take, 0, 0);
     while (shown.ans == XIQUEPAZO_RETURNED) {
         printf("word %04X\n", shown.word);
-        shown = xiquepazo_call(service, XIQUEPAZO_TAKE_WORD, 0, 0);
+        shown = xiquepazo_call(service, take, 0, 0);
     }
 }
 
@@ -95,6 +95,7 @@ int main(void)
 {
     static const uint8_t shifted_a[] = {0x2A, 0x1E, 0x9E, 0xAA};
     static const uint8_t keypad_44[] = {0x38, 0x4B, 0xCB, 0x4B, 0xCB, 0xB8};
+    static const uint8_t f11_and_a[] = {0x57, 0xD7, 0x1E, 0x9E};
     static const uint8_t caps_lock[] = {0x3A, 0xBA};
     struct xiquepazo_tagged key_b = {'K', 0x30, 0, 0};
     struct xiquepazo_tagged no_function = {'C', 0x99, 0, 0};
@@ -109,7 +110,12 @@ int main(void)
 
     feed(&service, shifted_a, sizeof shifted_a);
     feed(&service, keypad_44, sizeof keypad_44);
-    take_words(&service);
+    feed(&service, f11_and_a, sizeof f11_and_a);
+    take_words(&service, XIQUEPAZO_TAKE_ENHANCED);
+
+    /* An old program gets the a alone. */
+    feed(&service, f11_and_a, sizeof f11_and_a);
+    take_words(&service, XIQUEPAZO_TAKE_WORD);
 
     feed(&service, caps_lock, sizeof caps_lock);
     drain(&service, &keyboard);

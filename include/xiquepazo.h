@@ -8,7 +8,7 @@
  * must be valid, aligned and not null, and must not overlap. One service is used by one thread at a time; an interrupt handler counts as
  * one. Nothing is kept between calls, so different services may be used at the same time.
  *
- * A call takes less than 2 KB of stack (1,417 bytes measured, by a report) and writes to the registers xmm0 to xmm4, which an interrupt
+ * A call takes less than 2 KB of stack (1,409 bytes measured, by a report) and writes to the registers xmm0 to xmm4, which an interrupt
  * handler that calls the library has to save.
  *
  * Refusals, by who causes them. A refused call leaves the service as it was, byte for byte.
@@ -50,8 +50,8 @@ enum {
     XIQUEPAZO_OVERRUN = 0x05,      /* the keyboard lost bytes */
     XIQUEPAZO_TAKEN = 0x06,        /* a reply was taken */
     XIQUEPAZO_IGNORED = 0x07,      /* a reply or time-out that was not awaited */
-    XIQUEPAZO_RETURNED = 0x08,     /* `word` is the oldest of the queue */
-    XIQUEPAZO_NONE = 0x09,         /* the queue is empty */
+    XIQUEPAZO_RETURNED = 0x08,     /* `word` is the oldest of the queue that the function may see */
+    XIQUEPAZO_NONE = 0x09,         /* the queue is empty now */
     XIQUEPAZO_STATUS = 0x0A,       /* `word` is a status */
     XIQUEPAZO_DONE = 0x0B,         /* functions 03 and 05, E, R, and a time-out that was awaited */
     XIQUEPAZO_SEND = 0x0C,         /* the low byte of `word` is to be sent to the keyboard */
@@ -74,7 +74,7 @@ enum {
     XIQUEPAZO_BAD_START = 10
 };
 
-/* The int 16h functions. 10, 11 and 12 are for programs that know the enhanced keyboard. */
+/* The int 16h functions. 10, 11 and 12 are for programs that know the enhanced keyboard: 00 and 01 remove its words unseen. */
 enum {
     XIQUEPAZO_TAKE_WORD = 0x00,
     XIQUEPAZO_LOOK_AT_WORD = 0x01,
@@ -278,7 +278,8 @@ static inline struct xiquepazo_shown xiquepazo_key(struct xiquepazo_service *ser
 }
 
 /*
- * Int 16h. 00, 10: the oldest word, removed. 01, 11: the oldest word, left. 02: status, byte 17. 12: extended status. 03: delay a, rate b.
+ * Int 16h. 10: the oldest word, removed. 11: the oldest word, left. 00, 01: the same, once the enhanced words at the head of the queue,
+ * those with a high byte of 85 or more and a low byte of 00, are removed. 02: status, byte 17. 12: extended status. 03: delay a, rate b.
  * 05: put word a b. Refusals 2 to 5, as ans 82 to 85.
  */
 static inline struct xiquepazo_shown xiquepazo_call(struct xiquepazo_service *service, uint8_t function, uint8_t a, uint8_t b)

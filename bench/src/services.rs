@@ -4,7 +4,7 @@ use crate::instructions::shown;
 use crate::rounds::take_turns;
 use crate::{instructions, waits};
 use differential::Image;
-use reference::generator::{random_events, Random, FLAVOURS};
+use reference::generator::{random_events, Flavour, Random};
 use reference::{Event, Outcome, Service, REPORT_LENGTH};
 use std::ffi::{OsStr, OsString};
 use std::hint::black_box;
@@ -29,14 +29,14 @@ struct Row {
 const ROWS: [Row; 3] = [
     Row {
         name: "event",
-        events: of_every_flavour,
+        events: of_measured_flavours,
         agree: |events| agree(events, event_proved, Service::event),
         proved: |events| run_proved(events, event_proved),
         reference: |events| run_reference(events, Service::event),
     },
     Row {
         name: "report",
-        events: of_every_flavour,
+        events: of_measured_flavours,
         agree: |events| agree(events, report_proved, report_reference),
         proved: |events| run_proved(events, report_proved),
         reference: |events| run_reference(events, report_reference),
@@ -53,7 +53,7 @@ const ROWS: [Row; 3] = [
 /// `program` is this program: it counts its own instructions by running rounds of a row under callgrind.
 pub fn measure(program: &OsStr) {
     println!(
-        "\nServices: one new service and {EVENTS} random events, as many of each flavour, or for a panel \
+        "\nServices: one new service and {EVENTS} random events, as many of each measured flavour, or for a panel \
          keyboard bytes with functions 01 and 00 at every eighth; medians of {ROUNDS} rounds"
     );
     println!("  call             proved M/s   reference M/s   ratio   instructions an event: proved   reference   loads that wait: proved   reference");
@@ -120,10 +120,18 @@ pub fn run_rounds(row: usize, side: &str, rounds: usize, events: usize) {
     }
 }
 
-fn of_every_flavour(count: usize) -> Vec<Event> {
+/// Fixed, so that figures taken before and after a change are of the same events.
+const MEASURED: [Flavour; 4] = [
+    Flavour::Keys,
+    Flavour::Line,
+    Flavour::Queue,
+    Flavour::Everything,
+];
+
+fn of_measured_flavours(count: usize) -> Vec<Event> {
     let mut random = Random::new(7);
-    let of_flavour = |flavour| random_events(&mut random, flavour, count / FLAVOURS.len());
-    FLAVOURS.into_iter().flat_map(of_flavour).collect()
+    let of_flavour = |flavour| random_events(&mut random, flavour, count / MEASURED.len());
+    MEASURED.into_iter().flat_map(of_flavour).collect()
 }
 
 /// What a panel does: bytes come from the keyboard, and now and then a program looks for a word and takes it.

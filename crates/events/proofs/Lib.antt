@@ -2,7 +2,9 @@ pub mod Model
 pub mod Lists
 pub mod Resynchronised
 pub mod Bench
+pub mod Calls
 pub mod RefusedCalls
 pub mod SentCounts
 pub mod Ranges
 pub mod QueueListed
+pub mod OldPrograms

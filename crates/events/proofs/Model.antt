@@ -11,6 +11,7 @@ use Rattle.port.specs.AltEntry.{digitIn, altDigit, altEnded}
 use Rattle.port.specs.Makes.{entryFor, wordPut, entryPut, typed, counted, entered, madeOf}
 use Rattle.port.specs.KeyByte.{onEntry, codeRead, onReading, keyByteOf}
 use Rattle.queue.specs.Queue as queue
+use Rattle.queue.specs.Enhanced.{pastEnhanced}
 use Rattle.line.specs.State as line
 use Rattle.line.specs.Poll as poll
 use Rattle.line.specs.Reply as reply
@@ -20,7 +21,7 @@ use Rattle.state.specs.Flags.{byte17Of, byte18Of, byte96Of, byte97Of, statusHig
 use Rattle.events.specs.Outcomes.{answeredOf, offeredOf}
 use Rattle.events.specs.Keyboard.{brokenOf, onEffect, typedOf, keyOf}
 use Rattle.events.specs.Commands.{ledValue, onLine, pollOf, acknowledgeOf, resendOf, timeOutOf, restartOf}
-use Rattle.events.specs.Functions.{takeOf, lookOf, statusOf, setRateOf, callOf}
+use Rattle.events.specs.Functions.{forOldProgram, takeOf, lookOf, statusOf, setRateOf, callOf}
 use Rattle.events.specs.Step.{emptyOf, stepOf}
 
 unfoldable pub model : Unit {0}
@@ -28,12 +29,12 @@ unfolding if_then_else_ weightOf byteOf
     rows extendedRows isShifted columnOf entryAt lookupOf
     opened continued readingOf modifiersAfter heldAfter locksAfter flagsChanged digitIn altDigit altEnded
     entryFor wordPut entryPut typed counted entered madeOf onEntry codeRead onReading keyByteOf
-    queue.emptyQueue queue.oldestOf queue.putOf queue.restOf queue.takeOf
+    queue.emptyQueue queue.oldestOf queue.putOf queue.restOf queue.takeOf pastEnhanced
     line.newLine line.waitRateOf line.sentIn line.sentOf line.isLedOf line.ledRunsIn line.ledRunsOf line.isValueOf line.unchangedOf
     poll.waitingOf poll.nextOf poll.oneMoreOf poll.firstByteOf poll.dueOf poll.countedOf poll.sendOf poll.rateLeftOf poll.startOf
     poll.startNextOf poll.idlePollOf poll.pollIn poll.pollOf
     reply.markAcknowledgedOf reply.markResendOf reply.markDoneOf reply.markAbandonedOf reply.endedOf reply.operandOf reply.acknowledgedOf
     reply.failedOf reply.replyIn reply.acknowledgeOf reply.resendOf reply.timeOutOf byte97.byte97Of
     locksOf newService byte17Of byte18Of byte96Of byte97Of statusHigh answeredOf offeredOf brokenOf onEffect typedOf keyOf
-    ledValue onLine pollOf acknowledgeOf resendOf timeOutOf restartOf takeOf lookOf statusOf setRateOf callOf emptyOf stepOf
+    ledValue onLine pollOf acknowledgeOf resendOf timeOutOf restartOf forOldProgram takeOf lookOf statusOf setRateOf callOf emptyOf stepOf
 model = tt

@@ -7,7 +7,7 @@ use mathlib.Core.Bool.{Bool, true, false, _||_}
 use mathlib.Core.List.{List, [], _∷_, _++_}
 use lib.Dec.{eqb}
 use lib.ListN.{length}
-use borrow.Author.Tests.{ltb-true, ltb-false}
+use borrow.Author.Tests.{ltb-true, ltb-false, eqb-true}
 use Rattle.bits.specs.Choice.{if_then_else_}
 use Rattle.bits.proofs.Choice.{by-test, either}
 use Rattle.word.specs.declared.Word.{Word}
@@ -33,19 +33,19 @@ use Rattle.state.specs.State.{newService}
 use Rattle.events.specs.Outcomes.{answeredOf, offeredOf}
 use Rattle.events.specs.Keyboard.{breakWord, brokenOf, onEffect, typedOf, keyOf}
 use Rattle.events.specs.Commands.{lineAnswer, onLine, pollOf, acknowledgeOf, resendOf, timeOutOf, restartOf}
-use Rattle.events.specs.Functions.{oldestAnswer, takeOf, lookOf, statusOf, setRateOf, callOf}
+use Rattle.events.specs.Functions.{oldestAnswer, forOldProgram, takeOf, lookOf, statusOf, setRateOf, callOf}
 use Rattle.events.specs.Step.{emptyOf, stepOf}
 use Rattle.events.specs.Run.{next, after}
-use Rattle.events.specs.Queued.{removes, empties, wordsAfter, Fits, QueueAsListed, QueueAtMostCapacity}
+use Rattle.events.specs.Queued.{foundBy, removes, empties, wordsAfter, Fits, QueueAsListed, QueueAtMostCapacity}
 
--- a queue, what an event answers and the queue after it
-record Told (event : Event) (before : Queue) (answer : Answer) (later : Queue) : Type 0 where
-  words : wordsOf later ≡ wordsAfter event answer (wordsOf before)
-  fits : Fits answer (wordsOf before)
+-- the words that an event found, what it answers and the queue after it
+record Told (event : Event) (found : List Word) (answer : Answer) (later : Queue) : Type 0 where
+  words : wordsOf later ≡ wordsAfter event answer found
+  fits : Fits answer found
   whole : Whole later
 
-record Tells (event : Event) (before : Queue) (outcome : Outcome) : Type 0 where
-  told : Told event before (outcome .answer) (outcome .service .queue)
+record Tells (event : Event) (found : List Word) (outcome : Outcome) : Type 0 where
+  told : Told event found (outcome .answer) (outcome .service .queue)
 
 -- ---- the queue is left alone
 
@@ -63,7 +63,7 @@ emptied : (list : List Word) → [] ≡ wordsAfter Empty Done list
 unfolding if_then_else_
 emptied list = refl
 
-same : {event : Event} {answer : Answer} (q : Queue) → Whole q → Idle event answer → Told event q answer q
+same : {event : Event} {answer : Answer} (q : Queue) → Whole q → Idle event answer → Told event (wordsOf q) answer q
 same q w h = record { words = sym (h .words (wordsOf q)); fits = h .fits (wordsOf q); whole = w }
 
 -- ---- a word is offered
@@ -76,7 +76,7 @@ module _ (event : Event) (kept full : Answer) (service : Service) (word : Word) 
   abbrev words-before : List Word
   words-before = wordsOf (service .queue)
 
-  offered-by : (t : Bool) → hasRoom words-before ≡ t → Told event (service .queue) (if t then kept else full) (queue.putOf (service .queue) word .queue)
+  offered-by : (t : Bool) → hasRoom words-before ≡ t → Told event words-before (if t then kept else full) (queue.putOf (service .queue) word .queue)
   unfolding putIn if_then_else_
   offered-by true e =
       record {
@@ -91,15 +91,15 @@ module _ (event : Event) (kept full : Answer) (service : Service) (word : Word) 
         whole = stays-whole .put (service .queue) word w;
       }
 
-  offered-tells : Tells event (service .queue) (offeredOf service word kept full)
+  offered-tells : Tells event words-before (offeredOf service word kept full)
   unfolding offeredOf answeredOf
   offered-tells = record { told = rw (as-listed .put (service .queue) word w .stored) (offered-by (hasRoom words-before) refl) }
 
 -- ---- keys
 
-broken-told : (event : Event) (q : Queue) → Told event q Break (queue.putOf queue.emptyQueue breakWord .queue)
+broken-told : (event : Event) (found : List Word) → Told event found Break (queue.putOf queue.emptyQueue breakWord .queue)
 unfolding putIn if_then_else_
-broken-told event q =
+broken-told event found =
     let whole = stays-whole .empty in
     record {
       words = as-listed .put queue.emptyQueue breakWord whole .words ∙ simp empty-holds-none;
@@ -107,12 +107,12 @@ broken-told event q =
       whole = stays-whole .put queue.emptyQueue breakWord whole;
     }
 
-effect-tells : (byte : ℕ) (service : Service) (e : Effect) → Whole (service .queue) → Tells (Key byte) (service .queue) (onEffect service e)
+effect-tells : (byte : ℕ) (service : Service) (e : Effect) → Whole (service .queue) → Tells (Key byte) (wordsOf (service .queue)) (onEffect service e)
 unfolding onEffect answeredOf brokenOf
 effect-tells byte service effect.Nothing w = record { told = same (service .queue) w (record { words = λ _. refl; fits = λ _. tt }) }
 effect-tells byte service (effect.Put word) w =
     offered-tells (Key byte) (Put word) (Dropped word) service word w (λ _. refl) (λ _. refl) (λ _ h. h) (λ _ h. h)
-effect-tells byte service effect.Break w = record { told = broken-told (Key byte) (service .queue) }
+effect-tells byte service effect.Break w = record { told = broken-told (Key byte) (wordsOf (service .queue)) }
 effect-tells byte service effect.RestartAsked w = record { told = same (service .queue) w (record { words = λ _. refl; fits = λ _. tt }) }
 effect-tells byte service effect.Overrun w = record { told = same (service .queue) w (record { words = λ _. refl; fits = λ _. tt }) }
 
@@ -124,27 +124,27 @@ line-idle event line-answer.Ignored taken h = record { words = λ _. refl; fits 
 line-idle event line-answer.GivenUp taken h = record { words = λ _. refl; fits = λ _. tt }
 
 line-tells : (event : Event) (service : Service) (after : LineOutcome) (taken : Answer) → Idle event taken → Whole (service .queue)
-    → Tells event (service .queue) (onLine service after taken)
+    → Tells event (wordsOf (service .queue)) (onLine service after taken)
 unfolding onLine
 line-tells event service after taken h w = record { told = same (service .queue) w (line-idle event (after .answer) taken h) }
 
-typed-tells : (service : Service) (byte : ℕ) → Whole (service .queue) → Tells (Key byte) (service .queue) (typedOf service byte)
+typed-tells : (service : Service) (byte : ℕ) → Whole (service .queue) → Tells (Key byte) (wordsOf (service .queue)) (typedOf service byte)
 unfolding typedOf
 typed-tells service byte w = effect-tells byte _ (keyByteOf (service .port) (service .shared) byte .effect) w
 
-acknowledge-tells : (service : Service) (byte : ℕ) → Whole (service .queue) → Tells (Key byte) (service .queue) (acknowledgeOf service)
+acknowledge-tells : (service : Service) (byte : ℕ) → Whole (service .queue) → Tells (Key byte) (wordsOf (service .queue)) (acknowledgeOf service)
 unfolding acknowledgeOf
 acknowledge-tells service byte w = line-tells (Key byte) service _ Taken (record { words = λ _. refl; fits = λ _. tt }) w
 
-resend-tells : (service : Service) (byte : ℕ) → Whole (service .queue) → Tells (Key byte) (service .queue) (resendOf service)
+resend-tells : (service : Service) (byte : ℕ) → Whole (service .queue) → Tells (Key byte) (wordsOf (service .queue)) (resendOf service)
 unfolding resendOf
 resend-tells service byte w = line-tells (Key byte) service _ Taken (record { words = λ _. refl; fits = λ _. tt }) w
 
-key-tells : (service : Service) (byte : ℕ) → Whole (service .queue) → Tells (Key byte) (service .queue) (keyOf service byte)
+key-tells : (service : Service) (byte : ℕ) → Whole (service .queue) → Tells (Key byte) (wordsOf (service .queue)) (keyOf service byte)
 unfolding keyOf
 key-tells service byte w =
-    either (Tells (Key byte) (service .queue)) _ _ _ (acknowledge-tells service byte w)
-    (either (Tells (Key byte) (service .queue)) _ _ _ (resend-tells service byte w) (typed-tells service byte w))
+    either (Tells (Key byte) (wordsOf (service .queue))) _ _ _ (acknowledge-tells service byte w)
+    (either (Tells (Key byte) (wordsOf (service .queue))) _ _ _ (resend-tells service byte w) (typed-tells service byte w))
 
 -- ---- functions
 
@@ -155,13 +155,12 @@ oldest-by event [] after e = (sym e ∙ either (λ (l : List Word). l ≡ []) (r
 oldest-by event (word ∷ later) after e = (sym e, refl)
 
 -- 00 and 10
-take-tells : (function a b : ℕ) (service : Service) → (eqb function 0x00 || eqb function 0x10) ≡ true → Whole (service .queue)
-    → Tells (Call function a b) (service .queue) (takeOf service)
+take-tells : (event : Event) (service : Service) → removes event ≡ true → Whole (service .queue) → Tells event (wordsOf (service .queue)) (takeOf service)
 unfolding takeOf answeredOf if_then_else_
-take-tells function a b service e w =
+take-tells event service e w =
     let list = wordsOf (service .queue) in
     let listed = as-listed .take (service .queue) in
-    let by = oldest-by (Call function a b) list (restIn list) (simp e) in
+    let by = oldest-by event list (restIn list) (simp e) in
     record {
       told =
           record {
@@ -172,33 +171,56 @@ take-tells function a b service e w =
     }
 
 -- 01 and 11
-look-tells : (function a b : ℕ) (service : Service) → (eqb function 0x00 || eqb function 0x10) ≡ false → Whole (service .queue)
-    → Tells (Call function a b) (service .queue) (lookOf service)
+look-tells : (event : Event) (service : Service) → removes event ≡ false → Whole (service .queue) → Tells event (wordsOf (service .queue)) (lookOf service)
 unfolding lookOf answeredOf if_then_else_
-look-tells function a b service e w =
+look-tells event service e w =
     let list = wordsOf (service .queue) in
     let first = as-listed .first (service .queue) in
-    let by = oldest-by (Call function a b) list list (simp e) in
+    let by = oldest-by event list list (simp e) in
     record { told = record { words = by .0 ∙ rw first; fits = rw first (by .1); whole = w } }
 
 -- an answer of a function that says nothing of the queue
 answered-tells : (event : Event) (service : Service) (answer : Answer) (q : Queue) → service .queue ≡ q → Whole q → Idle event answer
-    → Tells event q (answeredOf service answer)
+    → Tells event (wordsOf q) (answeredOf service answer)
 unfolding answeredOf
 answered-tells event service answer q e w h = record { told = rw e (same q w h) }
 
-call-tells : (service : Service) (function a b : ℕ) → Whole (service .queue) → Tells (Call function a b) (service .queue) (callOf service function a b)
+module _ (service : Service) (function a b : ℕ) where
+  -- 00 and 01 find what an old program may see, every other function the words as they are
+  old-found : (eqb function 0x00 || eqb function 0x01) ≡ true → foundBy (Call function a b) (wordsOf (service .queue)) ≡ wordsOf (forOldProgram service .queue)
+  unfolding if_then_else_ forOldProgram
+  old-found old = simp old (sym (as-listed .past (service .queue)))
+
+  all-found : eqb function 0x00 ≡ false → eqb function 0x01 ≡ false → foundBy (Call function a b) (wordsOf (service .queue)) ≡ wordsOf (service .queue)
+  unfolding if_then_else_
+  all-found d e = simp (d, e)
+
+old-whole : (service : Service) → Whole (service .queue) → Whole (forOldProgram service .queue)
+unfolding forOldProgram
+old-whole service w = stays-whole .past (service .queue) w
+
+call-tells : (service : Service) (function a b : ℕ) → Whole (service .queue)
+    → Tells (Call function a b) (foundBy (Call function a b) (wordsOf (service .queue))) (callOf service function a b)
 unfolding callOf statusOf setRateOf
 call-tells service function a b w =
-    by-test (Tells event q) (eqb function 0x00 || eqb function 0x10) _ _ (λ e. take-tells function a b service e w)
+    by-test (Tells event (foundBy event (wordsOf q))) (eqb function 0x00) _ _
+    (λ d. rw (old-found service function a b (simp d)) (take-tells event (forOldProgram service) (simp d) (old-whole service w)))
+    (λ d.
+    by-test (Tells event (foundBy event (wordsOf q))) (eqb function 0x01) _ _
     (λ e.
-    either (Tells event q) _ _ _ (look-tells function a b service e w)
-    (either (Tells event q) _ _ _ (idle service _ refl (record { words = λ _. refl; fits = λ _. tt }))
-    (either (Tells event q) _ _ _ (idle service _ refl (record { words = λ _. refl; fits = λ _. tt }))
-    (either (Tells event q) _ _ _
-    (either (Tells event q) _ _ _ (idle service _ refl (record { words = λ _. refl; fits = λ _. tt }))
-    (either (Tells event q) _ _ _ (idle service _ refl (record { words = λ _. refl; fits = λ _. tt })) (idle _ Done refl (done refl))))
-    (either (Tells event q) _ _ _ (offered-tells event (Stored word) (Refused refusal.Full) service word w (λ _. refl) (λ _. refl) (λ _ h. h) (λ _ h. h)) (idle service _ refl (record { words = λ _. refl; fits = λ _. tt })))))))
+    let one = eqb-true function 0x01 e in
+    rw (old-found service function a b (simp one)) (look-tells event (forOldProgram service) (simp one) (old-whole service w)))
+    (λ e.
+    rw (all-found service function a b d e)
+    (by-test (Tells event (wordsOf q)) (eqb function 0x10) _ _ (λ f. take-tells event service (simp (d, f)) w)
+    (λ f.
+    either (Tells event (wordsOf q)) _ _ _ (look-tells event service (simp (d, f)) w)
+    (either (Tells event (wordsOf q)) _ _ _ (idle service _ refl (record { words = λ _. refl; fits = λ _. tt }))
+    (either (Tells event (wordsOf q)) _ _ _ (idle service _ refl (record { words = λ _. refl; fits = λ _. tt }))
+    (either (Tells event (wordsOf q)) _ _ _
+    (either (Tells event (wordsOf q)) _ _ _ (idle service _ refl (record { words = λ _. refl; fits = λ _. tt }))
+    (either (Tells event (wordsOf q)) _ _ _ (idle service _ refl (record { words = λ _. refl; fits = λ _. tt })) (idle _ Done refl (done refl))))
+    (either (Tells event (wordsOf q)) _ _ _ (offered-tells event (Stored word) (Refused refusal.Full) service word w (λ _. refl) (λ _. refl) (λ _ h. h) (λ _ h. h)) (idle service _ refl (record { words = λ _. refl; fits = λ _. tt }))))))))))
   where
     event : Event
     event = Call function a b
@@ -209,12 +231,12 @@ call-tells service function a b w =
     word : Word
     word = wordWith (codeOf a) (asciiOf b)
 
-    idle : (after : Service) (answer : Answer) → after .queue ≡ q → Idle event answer → Tells event q (answeredOf after answer)
+    idle : (after : Service) (answer : Answer) → after .queue ≡ q → Idle event answer → Tells event (wordsOf q) (answeredOf after answer)
     idle after answer e h = answered-tells event after answer q e w h
 
 -- ---- every event
 
-step-tells : (service : Service) (event : Event) → Whole (service .queue) → Tells event (service .queue) (stepOf service event)
+step-tells : (service : Service) (event : Event) → Whole (service .queue) → Tells event (foundBy event (wordsOf (service .queue))) (stepOf service event)
 unfolding stepOf pollOf timeOutOf restartOf emptyOf answeredOf
 step-tells service (Key byte) w = key-tells service byte w
 step-tells service (Call function a b) w = call-tells service function a b w

@@ -26,9 +26,10 @@ use Rattle.events.specs.declared.Outcome.{Outcome}
 use Rattle.events.specs.Outcomes.{answeredOf, offeredOf}
 use Rattle.events.specs.Keyboard.{brokenOf, onEffect, typedOf, keyOf}
 use Rattle.events.specs.Commands.{ledValue, onLine, pollOf, acknowledgeOf, resendOf, timeOutOf, restartOf}
-use Rattle.events.specs.Functions.{takeOf, lookOf, statusOf, setRateOf, callOf}
+use Rattle.events.specs.Functions.{forOldProgram, takeOf, lookOf, statusOf, setRateOf, callOf}
 use Rattle.events.specs.Step.{emptyOf, stepOf}
 use Rattle.events.specs.Ranges.{StaysInRange}
+use Rattle.events.proofs.Calls.{call-by}
 
 -- the service that an outcome leaves
 record Left (outcome : Outcome) : Type 0 where
@@ -100,15 +101,30 @@ rate-in service delay rate h =
     let pair : 32 * delay + rate < rateValues = omega arith in
     answered-in _ _ (line-in service (input.waitRate (32 * delay + rate)) pair h)))
 
+old-in : (service : Service) → InRange service → InRange (forOldProgram service)
+unfolding forOldProgram
+old-in service h = record { queue = queue-stays-in-range .past (service .queue) (h .queue); line = h .line }
+
+take-in : (service : Service) → InRange service → Left (takeOf service)
+unfolding takeOf
+take-in service h = answered-in _ _ (record { queue = queue-stays-in-range .take (service .queue) (h .queue); line = h .line })
+
+look-in : (service : Service) → InRange service → Left (lookOf service)
+unfolding lookOf
+look-in service h = answered-in service _ h
+
 call-in : (service : Service) (function a b : ℕ) → InRange service → Left (callOf service function a b)
-unfolding callOf takeOf lookOf statusOf
+unfolding statusOf
 call-in service function a b h =
-    either Left _ _ _ (answered-in _ _ (record { queue = queue-stays-in-range .take (service .queue) (h .queue); line = h .line }))
-    (either Left _ _ _ (answered-in service _ h)
-    (either Left _ _ _ (answered-in service _ h)
-    (either Left _ _ _ (answered-in service _ h)
-    (either Left _ _ _ (rate-in service a b h)
-    (either Left _ _ _ (offered-in service _ _ _ h) (answered-in service _ h))))))
+    call-by Left service function a b
+    (take-in (forOldProgram service) (old-in service h))
+    (look-in (forOldProgram service) (old-in service h))
+    (take-in service h)
+    (look-in service h)
+    (λ high low. answered-in service _ h)
+    (rate-in service a b h)
+    (offered-in service _ _ _ h)
+    (answered-in service _ h)
 
 -- ---- every event
 

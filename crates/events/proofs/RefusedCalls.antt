@@ -35,10 +35,11 @@ use Rattle.answers.specs.Answers.{ansOf}
 use Rattle.events.specs.Outcomes.{answeredOf, offeredOf}
 use Rattle.events.specs.Keyboard.{brokenOf, onEffect, typedOf, keyOf}
 use Rattle.events.specs.Commands.{lineAnswer, onLine, pollOf, acknowledgeOf, resendOf, timeOutOf, restartOf}
-use Rattle.events.specs.Functions.{oldestAnswer, takeOf, lookOf, statusOf, setRateOf, callOf}
+use Rattle.events.specs.Functions.{oldestAnswer, forOldProgram, takeOf, lookOf, statusOf, setRateOf, callOf}
 use Rattle.events.specs.Step.{emptyOf, stepOf}
 use Rattle.events.specs.Run.{shownOf, next, run, after}
 use Rattle.events.specs.Refused.{isRefusal, accepted, RefusedChangeNothing, RefusedCallsChangeNothing}
+use Rattle.events.proofs.Calls.{call-by}
 
 -- a refusal leaves the service as it was
 record Keeps (service : Service) (outcome : Outcome) : Type 0 where
@@ -114,18 +115,27 @@ unfolding answeredOf if_then_else_
 store-keeps service word after h true e = record { kept = λ r. absurd (true≢false (sym r ∙ simp e)) }
 store-keeps service word after h false e = record { kept = λ _. ap (withQueue service) (h .kept e) }
 
+take-keeps : (before service : Service) → Keeps before (takeOf service)
+unfolding takeOf answeredOf
+take-keeps before service = accepting (accept-oldest (queue.takeOf (service .queue) .oldest))
+
+look-keeps : (before service : Service) → Keeps before (lookOf service)
+unfolding lookOf answeredOf
+look-keeps before service = accepting (accept-oldest (queue.oldestOf (service .queue)))
+
 call-keeps : (service : Service) (function a b : ℕ) → Keeps service (callOf service function a b)
-unfolding callOf takeOf lookOf statusOf setRateOf offeredOf answeredOf
+unfolding statusOf setRateOf offeredOf answeredOf
 call-keeps service function a b =
-    either (Keeps service) _ _ _ (accepting (accept-oldest (queue.takeOf (service .queue) .oldest)))
-    (either (Keeps service) _ _ _ (accepting (accept-oldest (queue.oldestOf (service .queue))))
-    (either (Keeps service) _ _ _ (accepting (record { low = refl }))
-    (either (Keeps service) _ _ _ (accepting (record { low = refl }))
-    (either (Keeps service) _ _ _
+    let word = wordWith (codeOf a) (asciiOf b) in
+    call-by (Keeps service) service function a b
+    (take-keeps service (forOldProgram service))
+    (look-keeps service (forOldProgram service))
+    (take-keeps service service)
+    (look-keeps service service)
+    (λ high low. accepting (record { low = refl }))
     (either (Keeps service) _ _ _ (unchanged _ refl) (either (Keeps service) _ _ _ (unchanged _ refl) (accepting (record { low = refl }))))
-    (either (Keeps service) _ _ _
-    (let word = wordWith (codeOf a) (asciiOf b) in store-keeps service word (queue.putOf (service .queue) word) (put-unstored (service .queue) word) _ refl)
-    (unchanged _ refl))))))
+    (store-keeps service word (queue.putOf (service .queue) word) (put-unstored (service .queue) word) _ refl)
+    (unchanged _ refl)
 
 step-keeps : (service : Service) (event : Event) → Keeps service (stepOf service event)
 unfolding stepOf pollOf timeOutOf emptyOf answeredOf restartOf

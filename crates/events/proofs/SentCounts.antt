@@ -36,10 +36,11 @@ use Rattle.answers.specs.Answers.{ansOf}
 use Rattle.events.specs.Outcomes.{answeredOf, offeredOf}
 use Rattle.events.specs.Keyboard.{brokenOf, onEffect, typedOf, keyOf}
 use Rattle.events.specs.Commands.{ledValue, lineAnswer, onLine, pollOf, acknowledgeOf, resendOf, timeOutOf, restartOf}
-use Rattle.events.specs.Functions.{oldestAnswer, takeOf, lookOf, statusOf, setRateOf, callOf}
+use Rattle.events.specs.Functions.{oldestAnswer, forOldProgram, takeOf, lookOf, statusOf, setRateOf, callOf}
 use Rattle.events.specs.Step.{emptyOf, stepOf}
 use Rattle.events.specs.Run.{Shown, shownOf, next, run, after}
 use Rattle.events.specs.Sent.{bytesShown, countAt, carriedOn, countsOf, SentIsCounted, SentAtMostSix, ThreeSendsEach}
+use Rattle.events.proofs.Calls.{call-by}
 
 -- an event's count is the one before it and the byte that it shows as sent, and goes on with the command
 record Right (service : Service) (outcome : Outcome) : Type 0 where
@@ -153,18 +154,27 @@ key-right service byte w =
     either (Right service) _ _ _ (acknowledge-right service w)
     (either (Right service) _ _ _ (resend-right service w) (typed-right service byte w))
 
+take-right : (before service : Service) → service .line .phase ≡ before .line .phase → Within (before .line) → Right before (takeOf service)
+unfolding takeOf
+take-right before service e w = answered-right before _ _ e w (silent-oldest (queue.takeOf (service .queue) .oldest))
+
+look-right : (before service : Service) → service .line .phase ≡ before .line .phase → Within (before .line) → Right before (lookOf service)
+unfolding lookOf
+look-right before service e w = answered-right before service _ e w (silent-oldest (queue.oldestOf (service .queue)))
+
 call-right : (service : Service) (function a b : ℕ) → Within (service .line) → Right service (callOf service function a b)
-unfolding callOf takeOf lookOf statusOf setRateOf offeredOf waitRateOf
+unfolding forOldProgram statusOf setRateOf offeredOf waitRateOf
 call-right service function a b w =
-    either (Right service) _ _ _ (answered-right service _ _ refl w (silent-oldest (queue.takeOf (service .queue) .oldest)))
-    (either (Right service) _ _ _ (answered-right service _ _ refl w (silent-oldest (queue.oldestOf (service .queue))))
-    (either (Right service) _ _ _ (answered-right service _ _ refl w (record { silent = refl }))
-    (either (Right service) _ _ _ (answered-right service _ _ refl w (record { silent = refl }))
-    (either (Right service) _ _ _
+    call-by (Right service) service function a b
+    (take-right service (forOldProgram service) refl w)
+    (look-right service (forOldProgram service) refl w)
+    (take-right service service refl w)
+    (look-right service service refl w)
+    (λ high low. answered-right service _ _ refl w (record { silent = refl }))
     (either (Right service) _ _ _ (answered-right service _ _ refl w (record { silent = refl }))
     (either (Right service) _ _ _ (answered-right service _ _ refl w (record { silent = refl })) (answered-right service _ _ refl w (record { silent = refl }))))
-    (either (Right service) _ _ _ (answered-right service _ _ refl w (either Silent _ _ _ (record { silent = refl }) (record { silent = refl })))
-    (answered-right service _ _ refl w (record { silent = refl })))))))
+    (answered-right service _ _ refl w (either Silent _ _ _ (record { silent = refl }) (record { silent = refl })))
+    (answered-right service _ _ refl w (record { silent = refl }))
 
 -- ---- every event
 

@@ -1,7 +1,6 @@
--- Document 01, "Functions", with refusals 2 to 5.
+-- Document 01, "Functions", with refusals 2 to 5; document 02, W-201, for 00 and 01.
 -- Assumes nothing.
 use Prim.Native.Nat.{ℕ, _+_, _*_}
-use mathlib.Core.Bool.{_||_}
 use lib.Dec.{eqb, ltb}
 use Rattle.bits.specs.Choice.{if_then_else_}
 use Rattle.word.specs.declared.Word.{Word}
@@ -9,6 +8,7 @@ use Rattle.word.specs.Word.{codeOf, asciiOf, wordWith}
 use Rattle.queue.specs.declared.Oldest.{Oldest}
 use Rattle.queue.specs.declared.Oldest.the-variants.{None, Is}
 use Rattle.queue.specs.Queue as queue
+use Rattle.queue.specs.Enhanced.{pastEnhanced}
 use Rattle.line.specs.State.{waitRateOf}
 use Rattle.state.specs.declared.Service.{Service}
 use Rattle.answers.specs.declared.Refusal.the-variants as refusal
@@ -22,6 +22,10 @@ use Rattle.events.specs.Outcomes.{answeredOf, offeredOf}
 abbrev pub oldestAnswer : Oldest → Answer
 oldestAnswer None = NoWord
 oldestAnswer (Is word) = Returned word
+
+-- what an old program may see, which calls 00 and 01: the words from the first on that is not enhanced
+unfoldable pub forOldProgram : Service → Service
+forOldProgram service = withQueue service (pastEnhanced (service .queue))
 
 -- 00, 10: the oldest word, removed
 unfoldable pub takeOf : Service → Outcome
@@ -51,8 +55,10 @@ storeOf service word = offeredOf service word (Stored word) (Refused refusal.Ful
 -- refusal 2: a function that is not listed
 unfoldable pub callOf : Service → ℕ → ℕ → ℕ → Outcome
 callOf service function a b =
-    if eqb function 0x00 || eqb function 0x10 then takeOf service
-    else if eqb function 0x01 || eqb function 0x11 then lookOf service
+    if eqb function 0x00 then takeOf (forOldProgram service)
+    else if eqb function 0x01 then lookOf (forOldProgram service)
+    else if eqb function 0x10 then takeOf service
+    else if eqb function 0x11 then lookOf service
     else if eqb function 0x02 then statusOf service 0x00 (byte17Of service)
     else if eqb function 0x12 then statusOf service (statusHigh service) (byte17Of service)
     else if eqb function 0x03 then setRateOf service a b

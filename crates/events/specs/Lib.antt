@@ -11,3 +11,4 @@ pub mod Sent
 pub mod Ranges
 pub mod Refused
 pub mod Queued
+pub mod OldPrograms

@@ -9,7 +9,7 @@ use lib.ListN.{length}
 use Rattle.bits.specs.Choice.{if_then_else_}
 use Rattle.word.specs.declared.Word.{Word}
 use Rattle.queue.specs.Queue.{capacity}
-use Rattle.queue.specs.Words.{wordsOf, restIn}
+use Rattle.queue.specs.Words.{wordsOf, restIn, pastEnhancedIn}
 use Rattle.state.specs.declared.Service.{Service}
 use Rattle.events.specs.declared.Event.{Event}
 use Rattle.events.specs.declared.Event.the-variants.{Key, Call, Poll, TimeOut, Empty, Restart}
@@ -20,6 +20,15 @@ use Rattle.state.specs.State.{newService}
 use Rattle.events.specs.Keyboard.{breakWord}
 use Rattle.events.specs.Step.{stepOf}
 use Rattle.events.specs.Run.{next, after}
+
+-- the words that an event finds: 00 and 01 first remove the enhanced words before all others
+abbrev pub foundBy : Event → List Word → List Word
+foundBy (Key byte) words = words
+foundBy (Call function a b) words = if eqb function 0x00 || eqb function 0x01 then pastEnhancedIn words else words
+foundBy Poll words = words
+foundBy TimeOut words = words
+foundBy Empty words = words
+foundBy Restart words = words
 
 -- functions 00 and 10 remove the word that they return
 abbrev pub removes : Event → Bool
@@ -39,7 +48,7 @@ empties TimeOut = false
 empties Empty = true
 empties Restart = false
 
--- the words after an event, oldest first, by the event and its answer alone
+-- the words after an event, oldest first, by the event, its answer and the words that it found
 abbrev pub wordsAfter : Event → Answer → List Word → List Word
 wordsAfter event Nothing words = words
 wordsAfter event (Put word) words = words ++ (word ∷ [])
@@ -82,10 +91,10 @@ Fits (Refused refusal.Delay) words = Unit {0}
 Fits (Refused refusal.Rate) words = Unit {0}
 Fits (Refused refusal.Full) words = length words ≡ capacity
 
--- an event does to the queue what its answer says
+-- an event does to the words that it found what its answer says
 pub record Listed (service : Service) (event : Event) : Type 0 where
-  pub words : wordsOf (next service event .queue) ≡ wordsAfter event (stepOf service event .answer) (wordsOf (service .queue))
-  pub fits : Fits (stepOf service event .answer) (wordsOf (service .queue))
+  pub words : wordsOf (next service event .queue) ≡ wordsAfter event (stepOf service event .answer) (foundBy event (wordsOf (service .queue)))
+  pub fits : Fits (stepOf service event .answer) (foundBy event (wordsOf (service .queue)))
 
 -- so it is at every event of every list from a new service
 abbrev pub QueueAsListed : Type 0

@@ -4,7 +4,7 @@ ghost use Rattle.line.specs.State.{waitRateOf};
 ghost use Rattle.answers.specs.declared.Answer.the-variants.{Done, Refused};
 ghost use Rattle.state.specs.State.{withLine};
 ghost use Rattle.events.specs.Outcomes.{answeredOf};
-ghost use Rattle.events.specs.Functions.{oldestAnswer, takeOf, lookOf, statusOf, setRateOf, storeOf, callOf};
+ghost use Rattle.events.specs.Functions.{oldestAnswer, forOldProgram, takeOf, lookOf, statusOf, setRateOf, storeOf, callOf};
 use answers::Answer;
 use answers::Refusal;
 use events::Outcome;
@@ -21,6 +21,17 @@ fn oldest_answer(oldest: Oldest) -> Answer
         Oldest::None => Answer::NoWord,
         Oldest::Is(word) => Answer::Returned(word),
     }
+}
+
+// What 00 and 01 look at: mostly the service as it is, which then is not made anew.
+fn for_old_program(service: Service) -> Service
+    ensures { λ r. ⌜ r ≡ forOldProgram service ⌝ }
+{
+    let queue = service.queue;
+    if queue::starts_enhanced(queue) {
+        return state::with_queue(service, queue::past_enhanced(queue));
+    }
+    service
 }
 
 // 00 and 10.
@@ -92,10 +103,16 @@ fn store(service: Service, word: Word) -> Outcome
 pub fn call(service: Service, function: u8, a: u8, b: u8) -> Outcome
     ensures { λ r. ⌜ r ≡ callOf service function a b ⌝ }
 {
-    if (function == 0x00) | (function == 0x10) {
+    if function == 0x00 {
+        return take(for_old_program(service));
+    }
+    if function == 0x01 {
+        return look(for_old_program(service));
+    }
+    if function == 0x10 {
         return take(service);
     }
-    if (function == 0x01) | (function == 0x11) {
+    if function == 0x11 {
         return look(service);
     }
     if function == 0x02 {

@@ -2,6 +2,7 @@
 -- Assumes nothing.
 use mathlib.Core.Path.{_≡_, refl, _∙_, ap, sym}
 use mathlib.Core.Logic.{⊎-elim}
+use mathlib.Core.Bool.{Bool, true, false}
 use mathlib.Core.List.{List, [], _∷_}
 use Prim.Native.Nat.{_<_}
 use native.Mathlib.Nat.{eq-or-lt-of-le}
@@ -12,11 +13,14 @@ use lib.ListN.{length, length-set}
 use Rattle.bits.specs.Choice.{if_then_else_}
 use Rattle.bits.proofs.Choice.{by-test, either}
 use Rattle.word.specs.declared.Word.{Word}
+use Rattle.word.specs.Word.{isEnhanced}
 use Rattle.queue.specs.declared.Queue.{Queue}
 use Rattle.queue.specs.declared.AfterPut.{AfterPut}
 use Rattle.queue.specs.Queue.{capacity, heldIn, emptyQueue, putOf, restOf, takeOf}
-use Rattle.queue.specs.Words.{wordsOf, Whole, AtMostCapacity, EmptyHoldsNone, PutAppends, PutDrops, TakeRemoves, TakeOfNone, StaysWhole, QueueInRange, QueueStaysInRange, putIn, PutAsListed, TakeAsListed, AsListed}
+use Rattle.queue.specs.Enhanced.{oldestEnhanced, startsEnhanced, pastEnhanced}
+use Rattle.queue.specs.Words.{wordsOf, Whole, AtMostCapacity, EmptyHoldsNone, PutAppends, PutDrops, TakeRemoves, TakeOfNone, StaysWhole, QueueInRange, QueueStaysInRange, putIn, pastEnhancedIn, PutAsListed, TakeAsListed, AsListed, PassesAhead, PassesAll}
 use Rattle.queue.proofs.Calls.{put-room, put-full, oldest-none, oldest-some, rest-none, rest-some}
+use Rattle.queue.proofs.Past.{past-one, past-end, past-keeps}
 use Rattle.queue.proofs.Ring.{words-length, words-longer, words-split}
 
 -- how many words a queue holds, from the list
@@ -50,23 +54,33 @@ pub take-of-none : TakeOfNone
 unfolding takeOf
 take-of-none queue e = let none = holds queue e in rw (oldest-none queue none, rest-none queue none)
 
+rest-whole : (queue : Queue) → Whole queue → Whole (restOf queue)
+unfolding restOf
+rest-whole queue whole = either Whole _ _ _ whole (record { places = whole .places })
+
 pub stays-whole : StaysWhole
-unfolding emptyQueue putOf takeOf restOf
+unfolding emptyQueue putOf takeOf
 stays-whole =
     record {
       empty = record { places = refl };
       put = λ queue word whole. either (λ (after : AfterPut). Whole (after .queue)) _ _ _ (record { places = length-set (queue .words) _ word ∙ whole .places }) whole;
-      take = λ queue whole. either Whole _ _ _ whole (record { places = whole .places });
+      take = rest-whole;
+      past = past-keeps Whole rest-whole;
     }
 
+rest-in-range : (queue : Queue) → QueueInRange queue → QueueInRange (restOf queue)
+unfolding restOf
+rest-in-range queue within = either QueueInRange _ _ _ within (record { head = omega arith; count = omega (arith, within .count) })
+
 pub queue-stays-in-range : QueueStaysInRange
-unfolding emptyQueue putOf takeOf restOf
+unfolding emptyQueue putOf takeOf
 queue-stays-in-range =
     record {
       empty = record { head = omega arith; count = omega arith };
       put = λ queue word within. by-test (λ (after : AfterPut). QueueInRange (after .queue)) (ltb (heldIn queue) capacity) _ _
           (λ room. let less : heldIn queue < capacity = ltb-true _ _ room in record { head = within .head; count = omega arith }) (λ _. within);
-      take = λ queue within. either QueueInRange _ _ _ within (record { head = omega arith; count = omega (arith, within .count) });
+      take = rest-in-range;
+      past = past-keeps QueueInRange rest-in-range;
     }
 
 listed-drop : (queue : Queue) (word : Word) → length (wordsOf queue) ≡ capacity → PutAsListed queue word
@@ -87,6 +101,20 @@ listed-take : (queue : Queue) (words : List Word) → wordsOf queue ≡ words �
 listed-take queue [] e = record { oldest = rw (take-of-none queue e, e); words = rw (take-of-none queue e, e) }
 listed-take queue (word ∷ later) e = let removed = take-removes queue word later e in record { oldest = rw e (removed .oldest); words = rw e (removed .words) }
 
+-- by whether the first word is enhanced
+past-first : (queue : Queue) (word : Word) (later : List Word) → startsEnhanced queue ≡ isEnhanced word → wordsOf queue ≡ word ∷ later
+    → wordsOf (pastEnhanced (restOf queue)) ≡ pastEnhancedIn later → (t : Bool) → isEnhanced word ≡ t → wordsOf (pastEnhanced queue) ≡ pastEnhancedIn (word ∷ later)
+unfolding if_then_else_
+past-first queue word later first e more true t = simp t (ap wordsOf (past-one queue (first ∙ t)) ∙ more)
+past-first queue word later first e more false t = simp t (ap wordsOf (past-end queue (first ∙ t)) ∙ e)
+
+listed-past : (words : List Word) (queue : Queue) → wordsOf queue ≡ words → wordsOf (pastEnhanced queue) ≡ pastEnhancedIn words
+unfolding takeOf
+listed-past [] queue e = ap wordsOf (past-end queue (ap oldestEnhanced (oldest-none queue (holds queue e)))) ∙ e
+listed-past (word ∷ later) queue e =
+    let removed = take-removes queue word later e in
+    past-first queue word later (ap oldestEnhanced (removed .oldest)) e (listed-past later (restOf queue) (removed .words)) (isEnhanced word) refl
+
 pub as-listed : AsListed
 unfolding takeOf
 as-listed =
@@ -94,4 +122,15 @@ as-listed =
       put = λ queue word whole. ⊎-elim (listed-drop queue word) (listed-append queue word whole) (eq-or-lt-of-le (at-most-capacity queue));
       first = λ queue. listed-take queue (wordsOf queue) refl .oldest;
       take = λ queue. listed-take queue (wordsOf queue) refl;
+      past = λ queue. listed-past (wordsOf queue) queue refl;
     }
+
+pub passes-ahead : PassesAhead
+unfolding if_then_else_
+passes-ahead [] word later all other = simp other
+passes-ahead (first ∷ more) word later all other = simp (all .0) (passes-ahead more word later (all .1) other)
+
+pub passes-all : PassesAll
+unfolding if_then_else_
+passes-all [] all = refl
+passes-all (word ∷ later) all = simp (all .0) (passes-all later (all .1))

@@ -1,3 +1,4 @@
 pub mod Calls
+pub mod Past
 pub mod Ring
 pub mod Laws

@@ -8,10 +8,12 @@ use lib.Dec.{ltb}
 use lib.ListN.{length, getD}
 use Rattle.bits.specs.Choice.{if_then_else_}
 use Rattle.word.specs.declared.Word.{Word}
+use Rattle.word.specs.Word.{isEnhanced}
 use Rattle.queue.specs.declared.Queue.{Queue}
 use Rattle.queue.specs.declared.Oldest.{Oldest}
 use Rattle.queue.specs.declared.Oldest.the-variants.{None, Is}
 use Rattle.queue.specs.Queue.{capacity, arrayLength, blank, heldIn, emptyQueue, oldestOf, putOf, takeOf}
+use Rattle.queue.specs.Enhanced.{pastEnhanced}
 
 -- so many words, round the 15 places from a place on
 abbrev pub ring : List Word → ℕ → ℕ → List Word
@@ -68,12 +70,14 @@ pub record QueueStaysInRange : Type 0 where
   pub empty : QueueInRange emptyQueue
   pub put : (queue : Queue) (word : Word) → QueueInRange queue → QueueInRange (putOf queue word .queue)
   pub take : (queue : Queue) → QueueInRange queue → QueueInRange (takeOf queue .queue)
+  pub past : (queue : Queue) → QueueInRange queue → QueueInRange (pastEnhanced queue)
 
 -- no call loses a place of the array
 pub record StaysWhole : Type 0 where
   pub empty : Whole emptyQueue
   pub put : (queue : Queue) (word : Word) → Whole queue → Whole (putOf queue word .queue)
   pub take : (queue : Queue) → Whole queue → Whole (takeOf queue .queue)
+  pub past : (queue : Queue) → Whole queue → Whole (pastEnhanced queue)
 
 -- The calls again, as steps on a list, so that a run of calls is the same run on the list of words.
 abbrev pub hasRoom : List Word → Bool
@@ -90,6 +94,10 @@ abbrev pub restIn : List Word → List Word
 restIn [] = []
 restIn (word ∷ later) = later
 
+abbrev pub pastEnhancedIn : List Word → List Word
+pastEnhancedIn [] = []
+pastEnhancedIn (word ∷ later) = if isEnhanced word then pastEnhancedIn later else word ∷ later
+
 -- a put is the put on the list, and the word is stored where the list has room
 pub record PutAsListed (queue : Queue) (word : Word) : Type 0 where
   pub stored : putOf queue word .stored ≡ hasRoom (wordsOf queue)
@@ -104,3 +112,19 @@ pub record AsListed : Type 0 where
   pub put : (queue : Queue) (word : Word) → Whole queue → PutAsListed queue word
   pub first : (queue : Queue) → oldestOf queue ≡ oldestIn (wordsOf queue)
   pub take : (queue : Queue) → TakeAsListed queue
+  pub past : (queue : Queue) → wordsOf (pastEnhanced queue) ≡ pastEnhancedIn (wordsOf queue)
+
+-- ---- which words go before an old program sees one
+
+abbrev pub AllEnhanced : List Word → Type 0
+AllEnhanced [] = Unit {0}
+AllEnhanced (word ∷ later) = (isEnhanced word ≡ true) × AllEnhanced later
+
+-- enhanced words go where no other stands before them; the first other word stays, and all behind it
+abbrev pub PassesAhead : Type 0
+PassesAhead = (ahead : List Word) (word : Word) (later : List Word) → AllEnhanced ahead → isEnhanced word ≡ false
+    → pastEnhancedIn (ahead ++ word ∷ later) ≡ word ∷ later
+
+-- where no other word stands, all go
+abbrev pub PassesAll : Type 0
+PassesAll = (words : List Word) → AllEnhanced words → pastEnhancedIn words ≡ []

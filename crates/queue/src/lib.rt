@@ -2,6 +2,7 @@
 // a place beyond the fifteenth goes on at the first, and a count above 15 stands for 15.
 ghost use mathlib.Core.Path.{_≡_};
 ghost use Rattle.queue.specs.Queue.{emptyQueue, placeOf, heldIn, oldestOf, restOf, putOf, takeOf};
+ghost use Rattle.queue.specs.Enhanced.{startsEnhanced, pastEnhanced};
 use word::Word;
 
 const CAPACITY: usize = 15;
@@ -117,4 +118,25 @@ pub fn take(queue: Queue) -> Taken
         oldest,
         queue: left,
     }
+}
+
+// Whether the oldest word is enhanced.
+pub fn starts_enhanced(queue: Queue) -> bool
+    ensures { λ r. ⌜ r ≡ startsEnhanced queue ⌝ }
+{
+    match first(queue) {
+        Oldest::None => false,
+        Oldest::Is(word) => word::is_enhanced(word),
+    }
+}
+
+// The queue from its first word on that is not enhanced, for functions 00 and 01.
+pub fn past_enhanced(queue: Queue) -> Queue
+    ensures { λ r. ⌜ r ≡ pastEnhanced queue ⌝ }
+{
+    let mut seen = queue;
+    while starts_enhanced(seen) {
+        seen = rest(seen);
+    }
+    seen
 }

@@ -1,4 +1,4 @@
--- The 78 rows and the extended rows, in the order and by the rules in which document 01 prints them.
+-- The 78 rows and the extended rows, in the order and by the rules in which document 01 prints them; 57 and 58 are those of document 02, W-201.
 -- Assumes nothing.
 use Prim.Native.Nat.{ℕ, zero, suc, _+_, _-_}
 use mathlib.Core.List.{List, [], _∷_, _++_, map}
@@ -62,8 +62,8 @@ rows =
     ∷ row 0x39 (low 0x20) (low 0x20) (low 0x20) (low 0x20)
     ∷ [])
     ++ functionKeys 10 0x3B 0x5400 0x5E00 0x6800
-    ++ (row 0x57 (low 0x00) none none none
-    ∷ row 0x58 (low 0x00) none none none
+    ++ (row 0x57 (whole 0x8500) (whole 0x8700) (whole 0x8900) (whole 0x8B00)
+    ∷ row 0x58 (whole 0x8600) (whole 0x8800) (whole 0x8A00) (whole 0x8C00)
     ∷ keypad 0x47 0x37 (whole 0x7700)
     ∷ keypad 0x48 0x38 none
     ∷ keypad 0x49 0x39 (whole 0x8400)

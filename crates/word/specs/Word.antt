@@ -34,6 +34,10 @@ tableIndex code = code .0
 abbrev pub wordWith : ScanCode → Ascii → Word
 wordWith scan ascii = record { scan = scan; ascii = ascii }
 
+-- document 02, W-201: a word that functions 00 and 01 do not return
+abbrev pub isEnhanced : Word → Bool
+isEnhanced word = leb 0x85 (word .scan .0) && eqb (word .ascii .0) 0x00
+
 -- the word of a 16-bit number
 abbrev pub wordFrom : ℕ → Word
 wordFrom number = wordWith (codeOf (number / 0x100)) (asciiOf (number % 0x100))

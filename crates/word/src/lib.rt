@@ -1,6 +1,6 @@
 // Scan codes, ASCII bytes and the words made of them. The three types are built and opened in this crate only.
 ghost use mathlib.Core.Path.{_≡_};
-ghost use Rattle.word.specs.Word.{codeOf, asciiOf, isCode, within, tableIndex, wordWith, wordFrom, numberOf};
+ghost use Rattle.word.specs.Word.{codeOf, asciiOf, isCode, within, tableIndex, wordWith, isEnhanced, wordFrom, numberOf};
 
 // The number of a key.
 pub struct ScanCode(u8);
@@ -64,6 +64,13 @@ pub fn low(word: Word) -> u8
     ensures { λ r. ⌜ r ≡ word .ascii .0 ⌝ }
 {
     word.ascii.0
+}
+
+// Whether functions 00 and 01 pass the word over.
+pub fn is_enhanced(word: Word) -> bool
+    ensures { λ r. ⌜ r ≡ isEnhanced word ⌝ }
+{
+    (0x85 <= word.scan.0) & (word.ascii.0 == 0x00)
 }
 
 // The word of a 16-bit number, scan code high.

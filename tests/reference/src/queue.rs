@@ -5,6 +5,11 @@ pub const CAPACITY: usize = 15;
 /// A ring one slot wider than the queue, so that places wrap by a mask.
 const SLOTS: usize = 16;
 
+/// A high byte of 85 or more over a low byte of 00.
+pub fn is_enhanced(word: u16) -> bool {
+    word >= 0x8500 && word & 0xFF == 0
+}
+
 #[derive(Clone, Debug)]
 pub struct Queue {
     slots: [u16; SLOTS],
@@ -46,6 +51,13 @@ impl Queue {
         Some(word)
     }
 
+    /// Removes the words that only the enhanced functions show, up to the first that all may see.
+    pub fn drop_enhanced(&mut self) {
+        while self.oldest().is_some_and(is_enhanced) {
+            self.take();
+        }
+    }
+
     pub fn empty(&mut self) {
         self.count = 0;
     }
@@ -70,3 +82,31 @@ impl PartialEq for Queue {
 }
 
 impl Eq for Queue {}
+
+#[cfg(test)]
+mod tests {
+    use super::*;
+
+    #[test]
+    fn tells_enhanced_words_by_both_bytes() {
+        for word in [0x8500, 0x8600, 0x8C00, 0xE000, 0xFF00] {
+            assert!(is_enhanced(word), "{word:04X}");
+        }
+        for word in [0x0000, 0x8400, 0x84FF, 0x8501, 0x85E0, 0xFF01] {
+            assert!(!is_enhanced(word), "{word:04X}");
+        }
+    }
+
+    #[test]
+    fn drops_only_before_the_first_other_word() {
+        let mut queue = Queue::new();
+        for word in [0x8500, 0xFF00, 0x1E61, 0x8600] {
+            queue.put(word);
+        }
+        queue.drop_enhanced();
+        assert!(queue.words().eq([0x1E61, 0x8600]));
+        queue.take();
+        queue.drop_enhanced();
+        assert_eq!(queue.oldest(), None);
+    }
+}

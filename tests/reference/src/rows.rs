@@ -43,7 +43,7 @@ const fn low_bytes(code: u8, low: [i16; 4]) -> Row {
 }
 
 /// Codes with the low bytes of their four columns.
-const SINGLE_ROWS: [(u8, [i16; 4]); 21] = [
+const SINGLE_ROWS: [(u8, [i16; 4]); 19] = [
     (0x01, [0x1B, 0x1B, 0x1B, NONE]),
     (0x0C, [0x2D, 0x5F, 0x1F, NONE]),
     (0x0D, [0x3D, 0x2B, NONE, NONE]),
@@ -63,8 +63,6 @@ const SINGLE_ROWS: [(u8, [i16; 4]); 21] = [
     (0x39, [0x20, 0x20, 0x20, 0x20]),
     (0x4A, [0x2D, 0x2D, NONE, NONE]),
     (0x4E, [0x2B, 0x2B, NONE, NONE]),
-    (0x57, [0x00, NONE, NONE, NONE]),
-    (0x58, [0x00, NONE, NONE, NONE]),
 ];
 
 /// First codes of the three runs of letters.
@@ -161,23 +159,39 @@ const fn with_keypad(mut rows: Rows) -> Rows {
     rows
 }
 
+/// Runs of function keys: the first code, how many keys, and the first key's words. Each word is
+/// one hundred above that of the key before it. F11 and F12 have the enhanced words.
+const FUNCTION_KEYS: [(usize, usize, [u16; 4]); 2] = [
+    (0x3B, 10, [0x3B00, 0x5400, 0x5E00, 0x6800]),
+    (0x57, 2, [0x8500, 0x8700, 0x8900, 0x8B00]),
+];
+
 const fn with_function_keys(mut rows: Rows) -> Rows {
-    let mut place = 0;
-    while place < 10 {
-        let step = 0x100 * place as u16;
-        let words = [0x3B00 + step, 0x5400 + step, 0x5E00 + step, 0x6800 + step];
-        rows[0x3B + place] = Some(Row {
-            words: [
-                Some(words[0]),
-                Some(words[1]),
-                Some(words[2]),
-                Some(words[3]),
-            ],
-            lock: 0,
-        });
-        place += 1;
+    let mut run = 0;
+    while run < FUNCTION_KEYS.len() {
+        let (first, keys, words) = FUNCTION_KEYS[run];
+        let mut place = 0;
+        while place < keys {
+            rows[first + place] = Some(every_column(words, 0x100 * place as u16));
+            place += 1;
+        }
+        run += 1;
     }
     rows
+}
+
+/// A row with a word in each column, so far above the given ones.
+const fn every_column(words: [u16; 4], above: u16) -> Row {
+    let [plain, shift, ctrl, alt] = words;
+    Row {
+        words: [
+            Some(plain + above),
+            Some(shift + above),
+            Some(ctrl + above),
+            Some(alt + above),
+        ],
+        lock: 0,
+    }
 }
 
 /// Codes that keep their plain and ctrl words after E0.
@@ -231,7 +245,7 @@ mod tests {
     /// Samples at the ends of each run of rows.
     #[test]
     fn holds_printed_words() {
-        let samples: [(u16, [i32; 4]); 12] = [
+        let samples: [(u16, [i32; 4]); 14] = [
             (0x02, [0x0231, 0x0221, -1, 0x7800]),
             (0x03, [0x0332, 0x0340, 0x0300, 0x7900]),
             (0x0B, [0x0B30, 0x0B29, -1, 0x8100]),
@@ -241,6 +255,8 @@ mod tests {
             (0x32, [0x326D, 0x324D, 0x320D, 0x3200]),
             (0x44, [0x4400, 0x5D00, 0x6700, 0x7100]),
             (0x53, [0x5300, 0x532E, -1, -1]),
+            (0x57, [0x8500, 0x8700, 0x8900, 0x8B00]),
+            (0x58, [0x8600, 0x8800, 0x8A00, 0x8C00]),
             (0xE01C, [0x1C0D, 0x1C0D, 0x1C0A, -1]),
             (0xE04D, [0x4D00, 0x4D00, 0x7400, -1]),
             (0xE035, [0x352F, 0x352F, -1, -1]),

@@ -229,8 +229,12 @@ impl Service {
         Answer::with_word(number, word)
     }
 
-    /// The functions of int 16h.
+    /// The functions of int 16h. Old programs call 00 and 01, which know no enhanced words: those
+    /// ahead of the next word are gone even where 01 only looks.
     fn call(&mut self, function: u8, a: u8, b: u8) -> Answer {
+        if matches!(function, 0x00 | 0x01) {
+            self.queue.drop_enhanced();
+        }
         match function {
             0x00 | 0x10 => returned(self.queue.take()),
             0x01 | 0x11 => returned(self.queue.oldest()),

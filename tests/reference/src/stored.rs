@@ -3,7 +3,9 @@
 use crate::generator::{self, Pack};
 use crate::pack::MAXIMUM_PACK;
 use crate::trace;
-use crate::vectors::{from_hex, BENCH_CASES, EXAMPLE_PACK, READINGS, REFUSED_CALLS};
+use crate::vectors::{
+    from_hex, BENCH_CASES, ENHANCED_WORDS, EXAMPLE_PACK, READINGS, REFUSED_CALLS,
+};
 use std::collections::BTreeMap;
 
 /// All files of the program's folder by their paths in it: `data/` has the packs, `args` names them
@@ -39,7 +41,8 @@ impl Stored {
 /// The vectors, a pack that is too long, and some of the generated packs.
 fn stored() -> Vec<Stored> {
     let mut stored = vec![Stored::new("example", from_hex(EXAMPLE_PACK))];
-    let vectors = READINGS.iter().chain(&BENCH_CASES).chain(&REFUSED_CALLS);
+    let vectors = READINGS.iter().chain(&BENCH_CASES);
+    let vectors = vectors.chain(&REFUSED_CALLS).chain(&ENHANCED_WORDS);
     stored.extend(vectors.map(|vector| Stored::new(vector.name, vector.bytes())));
     stored.push(Stored::new("over-length", vec![b'P'; MAXIMUM_PACK + 1]));
     stored.extend(kept_of_generated());

@@ -194,6 +194,74 @@ pub const BENCH_CASES: [Vector; 13] = [
     ),
 ];
 
+/// The enhanced words: by the keys that put them, as words that the program put, and read by both
+/// pairs of functions.
+pub const ENHANCED_WORDS: [Vector; 27] = [
+    Vector::new("f11", "4B57", (0x01, 0x8500, 0x00000000, 0)),
+    Vector::new("f12", "4B58", (0x01, 0x8600, 0x00000000, 0)),
+    Vector::new("f11-shift", "4B2A4B57", (0x01, 0x8700, 0x02000000, 0)),
+    Vector::new("f12-shift", "4B364B58", (0x01, 0x8800, 0x01000000, 0)),
+    Vector::new("f11-ctrl", "4B1D4B57", (0x01, 0x8900, 0x04010000, 0)),
+    Vector::new("f12-ctrl", "4BE04B1D4B58", (0x01, 0x8A00, 0x04000400, 0)),
+    Vector::new("f11-alt", "4B384B57", (0x01, 0x8B00, 0x08020000, 0)),
+    Vector::new("f12-alt", "4BE04B384B58", (0x01, 0x8C00, 0x08000800, 0)),
+    Vector::new("look-at-8400", "4305840043010000", (0x08, 0x8400, 0, 0)),
+    Vector::new("look-at-84FF", "430584FF43010000", (0x08, 0x84FF, 0, 0)),
+    Vector::new("look-at-8500", "4305850043010000", (0x09, 0x0000, 0, 0)),
+    Vector::new("look-at-8501", "4305850143010000", (0x08, 0x8501, 0, 0)),
+    Vector::new("look-at-85E0", "430585E043010000", (0x08, 0x85E0, 0, 0)),
+    Vector::new("look-at-8C00", "43058C0043010000", (0x09, 0x0000, 0, 0)),
+    Vector::new("look-at-FF00", "4305FF0043010000", (0x09, 0x0000, 0, 0)),
+    Vector::new("take-of-84FF", "430584FF43000000", (0x08, 0x84FF, 0, 0)),
+    Vector::new("take-of-8500", "4305850043000000", (0x09, 0x0000, 0, 0)),
+    Vector::new("look-removes", "4B574301000043110000", (0x09, 0, 0, 0)),
+    Vector::new(
+        "look-makes-room",
+        "4B574B574B574B574B574B574B574B574B574B574B574B574B574B574B574301000043051234",
+        (0x0B, 0x1234, 0, 0),
+    ),
+    Vector::new(
+        "look-stops-at-a-letter",
+        "4B1E4B57430100004310000043100000",
+        (0x08, 0x8500, 0, 0),
+    ),
+    Vector::new(
+        "look-passes-two",
+        "4B574B584B1E4B5743010000",
+        (0x08, 0x1E61, 0, 0),
+    ),
+    Vector::new(
+        "look-leaves-the-letter",
+        "4B574B584B1E4B574301000043100000",
+        (0x08, 0x1E61, 0, 0),
+    ),
+    Vector::new(
+        "take-passes-two",
+        "4B574B584B1E4B5743000000",
+        (0x08, 0x1E61, 0, 0),
+    ),
+    Vector::new(
+        "take-leaves-what-is-behind",
+        "4B574B584B1E4B584300000043100000",
+        (0x08, 0x8600, 0, 0),
+    ),
+    Vector::new(
+        "enhanced-look-leaves",
+        "4B574B1E4311000043100000",
+        (0x08, 0x8500, 0, 0),
+    ),
+    Vector::new(
+        "enhanced-take-removes-one",
+        "4B574B584B1E4310000043110000",
+        (0x08, 0x8600, 0, 0),
+    ),
+    Vector::new(
+        "sixteenth-enhanced",
+        "4B574B574B574B574B574B574B574B574B574B574B574B574B574B574B574B58",
+        (0x02, 0x8600, 0, 0),
+    ),
+];
+
 /// The printed example: its pack and the whole text.
 pub const EXAMPLE_PACK: &str = "4B2A4B1E4BAA";
 pub const EXAMPLE_TEXT: &str = "\

@@ -1,6 +1,7 @@
 //! What holds after every event, over random lists.
 
 use reference::generator::{random_events, Random, FLAVOURS};
+use reference::queue::is_enhanced;
 use reference::{report, Event, Outcome, Service, REPORT_LENGTH};
 
 const EVENTS: usize = 200_000;
@@ -10,7 +11,7 @@ const EVENTS: usize = 200_000;
 fn each_step(mut check: impl FnMut(&Service, &Event, &Outcome, &Service)) {
     let mut random = Random::new(16);
     for (place, flavour) in FLAVOURS.into_iter().enumerate() {
-        let mut service = Service::new(5 * place as u8).unwrap();
+        let mut service = Service::new((5 * place % 16) as u8).unwrap();
         for event in random_events(&mut random, flavour, EVENTS) {
             let before = service.clone();
             let outcome = service.event(&event);
@@ -72,6 +73,20 @@ fn refused_call_changes_nothing() {
         }
     });
     assert!(seen.iter().all(|&count| count > 0), "each refusal is met");
+}
+
+#[test]
+fn old_functions_return_no_enhanced_word() {
+    let mut passed_over = 0;
+    each_step(|before, event, outcome, _| {
+        if let Event::Call(0x00 | 0x01, ..) = event {
+            let oldest = before.clone().event(&Event::Call(0x11, 0, 0)).word;
+            assert!(!is_enhanced(outcome.word));
+            assert!(is_enhanced(oldest) || outcome.word == oldest);
+            passed_over += usize::from(is_enhanced(oldest));
+        }
+    });
+    assert!(passed_over > 10_000, "the lists hold enhanced words");
 }
 
 #[test]

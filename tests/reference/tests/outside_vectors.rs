@@ -1,7 +1,8 @@
 //! The reference against outcomes that are written down.
 
 use reference::vectors::{
-    from_hex, Vector, BENCH_CASES, EXAMPLE_PACK, EXAMPLE_TEXT, READINGS, REFUSED_CALLS,
+    from_hex, Vector, BENCH_CASES, ENHANCED_WORDS, EXAMPLE_PACK, EXAMPLE_TEXT, READINGS,
+    REFUSED_CALLS,
 };
 use reference::{read_event, trace, Event, Outcome, Service};
 
@@ -44,6 +45,11 @@ fn bench_cases_hold() {
 #[test]
 fn refused_calls_hold() {
     check_last(&REFUSED_CALLS);
+}
+
+#[test]
+fn enhanced_words_hold() {
+    check_last(&ENHANCED_WORDS);
 }
 
 #[test]

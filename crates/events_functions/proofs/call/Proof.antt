@@ -7,19 +7,39 @@ use borrow.Author.Needs.{needs}
 use Rattle.events_functions.proofs.call.Statement.{statement}
 use Rattle.events_functions.proofs.call.Tie as tie
 
+for-old-program-requires : tie.Need-for-old-program-requires
+for-old-program-requires c κs = search needs
+
 take-requires : tie.Need-take-requires
 take-requires c κs = search needs
 
 returns : tie.Need-returns
 unfolding callOf if_then_else_
-returns c = simp (c .take .ensures, c .before .if1 .taken)
+returns c = simp (c .take .ensures, ← (c .before .for-old-program .ensures), eq-eqb _ _ (c .before .before .if1 .taken))
+
+for-old-program-requires-2 : tie.Need-for-old-program-requires-2
+for-old-program-requires-2 c κs = search needs
 
 look-requires : tie.Need-look-requires
 look-requires c κs = search needs
 
 returns-2 : tie.Need-returns-2
 unfolding callOf if_then_else_
-returns-2 c = simp (c .look .ensures, c .before .if2 .taken, c .before .before .if1 .left)
+returns-2 c = simp (c .look .ensures, ← (c .before .for-old-program2 .ensures), eq-eqb _ _ (c .before .before .if2 .taken), ne-eqb _ _ (c .before .before .before .if1 .left))
+
+take-requires-2 : tie.Need-take-requires-2
+take-requires-2 c κs = search needs
+
+returns-3 : tie.Need-returns-3
+unfolding callOf if_then_else_
+returns-3 c = simp (c .take2 .ensures, eq-eqb _ _ (c .before .if3 .taken), ne-eqb _ _ (c .before .before .if2 .left), ne-eqb _ _ (c .before .before .before .if1 .left))
+
+look-requires-2 : tie.Need-look-requires-2
+look-requires-2 c κs = search needs
+
+returns-4 : tie.Need-returns-4
+unfolding callOf if_then_else_
+returns-4 c = simp (c .look2 .ensures, eq-eqb _ _ (c .before .if4 .taken), ne-eqb _ _ (c .before .before .if3 .left), ne-eqb _ _ (c .before .before .before .if2 .left), ne-eqb _ _ (c .before .before .before .before .if1 .left))
 
 byte17-requires : tie.Need-byte17-requires
 byte17-requires c κs = search needs
@@ -27,9 +47,9 @@ byte17-requires c κs = search needs
 status-requires : tie.Need-status-requires
 status-requires c κs = search needs
 
-returns-3 : tie.Need-returns-3
+returns-5 : tie.Need-returns-5
 unfolding callOf if_then_else_
-returns-3 c = simp (c .status .ensures, ← (c .before .byte17 .ensures), eq-eqb _ _ (c .before .before .if3 .taken), c .before .before .before .if2 .left, c .before .before .before .before .if1 .left)
+returns-5 c = simp (c .status .ensures, ← (c .before .byte17 .ensures), eq-eqb _ _ (c .before .before .if5 .taken), ne-eqb _ _ (c .before .before .before .if4 .left), ne-eqb _ _ (c .before .before .before .before .if3 .left), ne-eqb _ _ (c .before .before .before .before .before .if2 .left), ne-eqb _ _ (c .before .before .before .before .before .before .if1 .left))
 
 status-high-requires : tie.Need-status-high-requires
 status-high-requires c κs = search needs
@@ -40,16 +60,16 @@ byte17-requires-2 c κs = search needs
 status-requires-2 : tie.Need-status-requires-2
 status-requires-2 c κs = search needs
 
-returns-4 : tie.Need-returns-4
+returns-6 : tie.Need-returns-6
 unfolding callOf if_then_else_
-returns-4 c = simp (c .status2 .ensures, ← (c .before .byte172 .ensures), ← (c .before .before .status-high .ensures), eq-eqb _ _ (c .before .before .before .if4 .taken), ne-eqb _ _ (c .before .before .before .before .if3 .left), c .before .before .before .before .before .if2 .left, c .before .before .before .before .before .before .if1 .left)
+returns-6 c = simp (c .status2 .ensures, ← (c .before .byte172 .ensures), ← (c .before .before .status-high .ensures), eq-eqb _ _ (c .before .before .before .if6 .taken), ne-eqb _ _ (c .before .before .before .before .if5 .left), ne-eqb _ _ (c .before .before .before .before .before .if4 .left), ne-eqb _ _ (c .before .before .before .before .before .before .if3 .left), ne-eqb _ _ (c .before .before .before .before .before .before .before .if2 .left), ne-eqb _ _ (c .before .before .before .before .before .before .before .before .if1 .left))
 
 set-rate-requires : tie.Need-set-rate-requires
 set-rate-requires c κs = search needs
 
-returns-5 : tie.Need-returns-5
+returns-7 : tie.Need-returns-7
 unfolding callOf if_then_else_
-returns-5 c = simp (c .set-rate .ensures, eq-eqb _ _ (c .before .if5 .taken), ne-eqb _ _ (c .before .before .if4 .left), ne-eqb _ _ (c .before .before .before .if3 .left), c .before .before .before .before .if2 .left, c .before .before .before .before .before .if1 .left)
+returns-7 c = simp (c .set-rate .ensures, eq-eqb _ _ (c .before .if7 .taken), ne-eqb _ _ (c .before .before .if6 .left), ne-eqb _ _ (c .before .before .before .if5 .left), ne-eqb _ _ (c .before .before .before .before .if4 .left), ne-eqb _ _ (c .before .before .before .before .before .if3 .left), ne-eqb _ _ (c .before .before .before .before .before .before .if2 .left), ne-eqb _ _ (c .before .before .before .before .before .before .before .if1 .left))
 
 scan-code-requires : tie.Need-scan-code-requires
 scan-code-requires c κs = search needs
@@ -63,38 +83,44 @@ joined-requires c κs = search needs
 store-requires : tie.Need-store-requires
 store-requires c κs = search needs
 
-returns-6 : tie.Need-returns-6
+returns-8 : tie.Need-returns-8
 unfolding callOf if_then_else_
-returns-6 c = simp (c .store .ensures, ← (c .before .joined .ensures), ← (c .before .before .ascii-byte .ensures), ← (c .before .before .before .scan-code .ensures), eq-eqb _ _ (c .before .before .before .before .if6 .taken), ne-eqb _ _ (c .before .before .before .before .before .if5 .left), ne-eqb _ _ (c .before .before .before .before .before .before .if4 .left), ne-eqb _ _ (c .before .before .before .before .before .before .before .if3 .left), c .before .before .before .before .before .before .before .before .if2 .left, c .before .before .before .before .before .before .before .before .before .if1 .left)
+returns-8 c = simp (c .store .ensures, ← (c .before .joined .ensures), ← (c .before .before .ascii-byte .ensures), ← (c .before .before .before .scan-code .ensures), eq-eqb _ _ (c .before .before .before .before .if8 .taken), ne-eqb _ _ (c .before .before .before .before .before .if7 .left), ne-eqb _ _ (c .before .before .before .before .before .before .if6 .left), ne-eqb _ _ (c .before .before .before .before .before .before .before .if5 .left), ne-eqb _ _ (c .before .before .before .before .before .before .before .before .if4 .left), ne-eqb _ _ (c .before .before .before .before .before .before .before .before .before .if3 .left), ne-eqb _ _ (c .before .before .before .before .before .before .before .before .before .before .if2 .left), ne-eqb _ _ (c .before .before .before .before .before .before .before .before .before .before .before .if1 .left))
 
 refused-requires : tie.Need-refused-requires
 refused-requires c κs = search needs
 
-returns-7 : tie.Need-returns-7
+returns-9 : tie.Need-returns-9
 unfolding callOf if_then_else_
-returns-7 c = simp (c .refused .ensures, ne-eqb _ _ (c .before .if6 .left), ne-eqb _ _ (c .before .before .if5 .left), ne-eqb _ _ (c .before .before .before .if4 .left), ne-eqb _ _ (c .before .before .before .before .if3 .left), c .before .before .before .before .before .if2 .left, c .before .before .before .before .before .before .if1 .left)
+returns-9 c = simp (c .refused .ensures, ne-eqb _ _ (c .before .if8 .left), ne-eqb _ _ (c .before .before .if7 .left), ne-eqb _ _ (c .before .before .before .if6 .left), ne-eqb _ _ (c .before .before .before .before .if5 .left), ne-eqb _ _ (c .before .before .before .before .before .if4 .left), ne-eqb _ _ (c .before .before .before .before .before .before .if3 .left), ne-eqb _ _ (c .before .before .before .before .before .before .before .if2 .left), ne-eqb _ _ (c .before .before .before .before .before .before .before .before .if1 .left))
 
 pub call-spec : {M : Type 1} → statement M
 call-spec =
     tie.close
     (tie.spec
+    for-old-program-requires
     take-requires
     returns
+    for-old-program-requires-2
     look-requires
     returns-2
+    take-requires-2
+    returns-3
+    look-requires-2
+    returns-4
     byte17-requires
     status-requires
-    returns-3
+    returns-5
     status-high-requires
     byte17-requires-2
     status-requires-2
-    returns-4
+    returns-6
     set-rate-requires
-    returns-5
+    returns-7
     scan-code-requires
     ascii-byte-requires
     joined-requires
     store-requires
-    returns-6
+    returns-8
     refused-requires
-    returns-7)
+    returns-9)

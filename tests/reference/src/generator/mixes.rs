@@ -1,7 +1,7 @@
 //! Random mixes of events, in which the interesting bytes are frequent.
 
 use super::random::Random;
-use super::writer::{Writer, LOCK_KEYS, MODIFIERS, PAUSE};
+use super::writer::{Writer, ENHANCED_KEYS, LOCK_KEYS, MODIFIERS, PAUSE};
 use super::Pack;
 use crate::pack::{Event, MAXIMUM_PACK};
 
@@ -12,13 +12,15 @@ pub enum Flavour {
     Line,
     Queue,
     Everything,
+    Enhanced,
 }
 
-pub const FLAVOURS: [Flavour; 4] = [
+pub const FLAVOURS: [Flavour; 5] = [
     Flavour::Keys,
     Flavour::Line,
     Flavour::Queue,
     Flavour::Everything,
+    Flavour::Enhanced,
 ];
 
 impl Flavour {
@@ -28,6 +30,7 @@ impl Flavour {
             Flavour::Line => "mix-line",
             Flavour::Queue => "mix-queue",
             Flavour::Everything => "mix",
+            Flavour::Enhanced => "mix-enhanced",
         }
     }
 
@@ -38,16 +41,25 @@ impl Flavour {
             Flavour::Line => [10, 10, 40, 40, 1, 1],
             Flavour::Queue => [60, 40, 2, 2, 1, 1],
             Flavour::Everything => [40, 20, 20, 20, 2, 2],
+            Flavour::Enhanced => [50, 46, 2, 2, 1, 1],
         }
     }
 
     /// Weights of the kinds of keys, in the order of `key_bytes`.
-    fn keys(self) -> [usize; 8] {
+    fn keys(self) -> [usize; 9] {
         match self {
-            Flavour::Keys => [20, 25, 12, 12, 12, 10, 4, 5],
-            Flavour::Line => [10, 5, 50, 3, 3, 3, 1, 3],
-            Flavour::Queue => [80, 10, 4, 10, 5, 2, 1, 2],
-            Flavour::Everything => [20, 15, 15, 10, 10, 5, 5, 20],
+            Flavour::Keys => [20, 25, 12, 12, 12, 10, 4, 5, 0],
+            Flavour::Line => [10, 5, 50, 3, 3, 3, 1, 3, 0],
+            Flavour::Queue => [80, 10, 4, 10, 5, 2, 1, 2, 0],
+            Flavour::Everything => [20, 15, 15, 10, 10, 5, 5, 20, 0],
+            Flavour::Enhanced => [20, 15, 2, 5, 5, 2, 1, 2, 60],
+        }
+    }
+
+    fn call(self, random: &mut Random) -> Event {
+        match self {
+            Flavour::Enhanced => enhanced_call(random),
+            _ => call(random),
         }
     }
 }
@@ -104,7 +116,7 @@ pub fn random_events(random: &mut Random, flavour: Flavour, count: usize) -> Vec
     while events.len() < count {
         match random.weighted(&flavour.events()) {
             0 => events.extend(key_bytes(random, flavour).into_iter().map(Event::Key)),
-            1 => events.push(call(random)),
+            1 => events.push(flavour.call(random)),
             2 => events.push(Event::Poll),
             3 => events.push(random.pick(&[
                 Event::Key(0xFA),
@@ -133,6 +145,13 @@ fn call(random: &mut Random) -> Event {
     Event::Call(function, operand(random, 4), operand(random, 32))
 }
 
+/// A reading of the queue, or a word put about the limit of the enhanced ones.
+fn enhanced_call(random: &mut Random) -> Event {
+    let function = random.pick(&[0x00, 0x01, 0x10, 0x11, 0x05, 0x05]);
+    let high = random.pick(&[0x84, 0x85, 0x86, 0x8C, 0xE0, 0xFF]);
+    Event::Call(function, high, random.pick(&[0x00, 0x00, 0x01, 0xE0]))
+}
+
 /// One key, or the bytes of a string, perhaps cut.
 fn key_bytes(random: &mut Random, flavour: Flavour) -> Vec<u8> {
     let strings: [&[u8]; 4] = [&PAUSE, &[0xE1, 0x9D, 0xC5], &[0xE1, 0x1D], &[0xE1]];
@@ -152,7 +171,8 @@ fn key_bytes(random: &mut Random, flavour: Flavour) -> Vec<u8> {
         }
         5 => random.pick(&strings).to_vec(),
         6 => vec![random.pick(&[0xE0, 0x00, 0xFF, 0x54, 0xD4])],
-        _ => vec![random.byte()],
+        7 => vec![random.byte()],
+        _ => vec![random.pick(&ENHANCED_KEYS)],
     }
 }
 

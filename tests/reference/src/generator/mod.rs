@@ -1,6 +1,7 @@
 //! Packs to compare programs with: systematic ones for every rule, and random mixes.
 
 mod calls;
+mod enhanced;
 mod keys;
 mod line;
 mod mixes;
@@ -29,6 +30,7 @@ pub fn packs() -> Vec<Pack> {
     prefixes::add(&mut packs);
     line::add(&mut packs);
     queue::add(&mut packs);
+    enhanced::add(&mut packs);
     calls::add(&mut packs);
     refused::add(&mut packs);
     mixes::add(&mut packs);

@@ -1,6 +1,7 @@
 //! Writes events into a pack, by name.
 
 use crate::pack::Event;
+use crate::queue::CAPACITY;
 
 /// Breaks of every key that has a state, and a space typed.
 pub const ALL_UP_RUN: [u8; 16] = [
@@ -18,6 +19,9 @@ pub const RIGHT_ALT: u8 = 0x20;
 
 /// Makes of the lock keys in the order of the lock bits.
 pub const LOCK_KEYS: [u8; 4] = [0x46, 0x45, 0x3A, 0x52];
+
+/// Makes of F11 and F12, whose words are enhanced under every modifier.
+pub const ENHANCED_KEYS: [u8; 2] = [0x57, 0x58];
 
 pub const PAUSE: [u8; 3] = [0xE1, 0x1D, 0x45];
 
@@ -120,6 +124,14 @@ impl Writer {
     pub fn fill(&mut self, words: usize) -> &mut Writer {
         for place in 0..words {
             self.key(0x10 + (place % 10) as u8);
+        }
+        self
+    }
+
+    /// Takes every word until none is left, enhanced ones too.
+    pub fn drain_enhanced(&mut self) -> &mut Writer {
+        for _ in 0..=CAPACITY {
+            self.call(0x10, 0, 0);
         }
         self
     }
