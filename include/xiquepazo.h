@@ -8,7 +8,7 @@
  * must be valid, aligned and not null, and must not overlap. One service is used by one thread at a time; an interrupt handler counts as
  * one. Nothing is kept between calls, so different services may be used at the same time.
  *
- * A call takes less than 2 KB of stack (1,409 bytes measured, by a report) and writes to the registers xmm0 to xmm4, which an interrupt
+ * A call takes less than 2 KB of stack (1,429 bytes measured, by a report) and writes to the registers xmm0 to xmm4, which an interrupt
  * handler that calls the library has to save.
  *
  * Refusals, by who causes them. A refused call leaves the service as it was, byte for byte.
@@ -22,7 +22,11 @@
  *   8  a pack over 32,768 bytes                 the writer of the pack
  *   9  report buffer under 44 bytes             the calling program
  *  10  a start beyond the pack's length         the reader of the pack
+ *  11  a frame from 2048 up, or start bit not 0 the cable, or the board that counts its bits
+ *  12  wrong parity in a frame, after 11        the same
+ *  13  stop bit of a frame not 1, after 12      the same
  * 6 and 9 run no event and leave the buffer as it was. An event that 2 to 5 refuse has its report written. A pack is only read.
+ * 11 to 13 feed nothing.
  */
 #ifndef XIQUEPAZO_H
 #define XIQUEPAZO_H
@@ -71,7 +75,10 @@ enum {
     XIQUEPAZO_CUT_SHORT = 7,
     XIQUEPAZO_PACK_TOO_LONG = 8,
     XIQUEPAZO_BUFFER_TOO_SHORT = 9,
-    XIQUEPAZO_BAD_START = 10
+    XIQUEPAZO_BAD_START = 10,
+    XIQUEPAZO_FRAME_START = 11,
+    XIQUEPAZO_FRAME_PARITY = 12,
+    XIQUEPAZO_FRAME_STOP = 13
 };
 
 /* The int 16h functions. 10, 11 and 12 are for programs that know the enhanced keyboard: 00 and 01 remove its words unseen. */
@@ -202,8 +209,8 @@ typedef char xiquepazo_queue_stands_at_16
 #undef XIQUEPAZO_AT
 
 /*
- * What is seen of an event: its answer, its word (put, dropped, returned, a status, or to be sent, else 0), the count of bytes sent by
- * the command that runs or ended with this event, and the flag bytes after it.
+ * What is seen of an event or a frame: its answer, its word (put, dropped, returned, a status, or to be sent, else 0), the count of bytes sent
+ * by the command that runs or ended with it, and the flag bytes after it.
  */
 struct xiquepazo_shown {
     uint16_t word;
@@ -259,6 +266,17 @@ struct xiquepazo_reading {
  * Nothing is run: hand the event to xiquepazo_event or xiquepazo_report.
  */
 struct xiquepazo_reading xiquepazo_read(const void *pack, size_t length, size_t start);
+
+/*
+ * For a board without a controller chip: an 11-bit frame from the keyboard, bit 0 the first on the wire. Bit 0 is the start, 0; bits 1 to 8 are
+ * the byte, lowest first; bit 9 is the parity, which makes the ones in bits 1 to 9 odd; bit 10 is the stop, 1.
+ * Such a frame is the event 'K' of its byte. Any other is refused by 11 to 13, as ans 8B to 8D: nothing is fed, and the flag bytes and `sent`
+ * are shown as they stand.
+ */
+struct xiquepazo_shown xiquepazo_frame(struct xiquepazo_service *service, uint16_t frame);
+
+/* The frame of a byte, for what a poll gives such a board to send. */
+uint16_t xiquepazo_frame_of(uint8_t byte);
 
 /* The calls for one kind of event each. */
 static inline struct xiquepazo_shown xiquepazo_tag(struct xiquepazo_service *service, char tag, uint8_t a, uint8_t b, uint8_t c)

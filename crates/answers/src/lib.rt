@@ -1,17 +1,20 @@
-// What an event answers, and the number and the word by which a report shows it.
+// What an event or a frame answers, and the number and the word by which a report or a struct for C shows it.
 ghost use mathlib.Core.Path.{_≡_};
+ghost use Rattle.answers.specs.declared.Refusal.the-variants.{Frame};
 ghost use Rattle.answers.specs.Answers.{refusedAns, ansOf, wordOf};
+use frame::Fault;
 use word::Word;
 
-// Why an int 16h call is turned away.
+// Why an int 16h call or a frame is turned away.
 pub enum Refusal {
     Function,
     Delay,
     Rate,
     Full,
+    Frame(Fault),
 }
 
-// What an event answers.
+// What an event or a frame answers.
 pub enum Answer {
     Nothing,
     Put(Word),
@@ -32,6 +35,16 @@ pub enum Answer {
     Refused(Refusal),
 }
 
+fn refused_frame(fault: Fault) -> u8
+    ensures { λ r. ⌜ r ≡ refusedAns (Frame fault) ⌝ }
+{
+    match fault {
+        Fault::Start => 0x8B,
+        Fault::Parity => 0x8C,
+        Fault::Stop => 0x8D,
+    }
+}
+
 fn refused(refusal: Refusal) -> u8
     ensures { λ r. ⌜ r ≡ refusedAns refusal ⌝ }
 {
@@ -40,6 +53,7 @@ fn refused(refusal: Refusal) -> u8
         Refusal::Delay => 0x83,
         Refusal::Rate => 0x84,
         Refusal::Full => 0x85,
+        Refusal::Frame(fault) => refused_frame(fault),
     }
 }
 

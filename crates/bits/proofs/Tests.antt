@@ -1,8 +1,8 @@
--- A fact about every number below a bound, from one test that the checker computes.
+-- What is known of tests that are joined, and a fact about every number below a bound from one test that the checker computes.
 -- Assumes nothing.
-use mathlib.Core.Path.{subst, sym}
+use mathlib.Core.Path.{_≡_, refl, subst, sym}
 use mathlib.Core.Logic.{⊎-elim}
-use mathlib.Core.Bool.{Bool, true, false, _&&_}
+use mathlib.Core.Bool.{Bool, true, false, _&&_, _||_, true≢false}
 use Prim.Native.Nat.{ℕ, zero, suc, _<_}
 use native.Mathlib.Nat.{le-of-suc-le-suc, not-suc-le-zero, eq-or-lt-of-le}
 use lib.Dec.{T}
@@ -14,6 +14,14 @@ and-left false b t = t
 pub and-right : (a b : Bool) → T (a && b) → T b
 and-right true b t = t
 and-right false b t = absurd t
+
+pub record Neither (a b : Bool) : Type 0 where
+  pub first : a ≡ false
+  pub second : b ≡ false
+
+pub neither : (a b : Bool) → (a || b) ≡ false → Neither a b
+neither true b h = absurd (true≢false h)
+neither false b h = record { first = refl; second = h }
 
 -- b wherever a
 abbrev pub implies : Bool → Bool → Bool

@@ -6,7 +6,7 @@ use mathlib.Core.Bool.{Bool, true, false, true≢false}
 use mathlib.Core.List.{List, [], _∷_}
 use lib.Dec.{ltb}
 use native.Mathlib.Omega.{arith}
-use borrow.Author.Tests.{lt-ltb}
+use borrow.Author.Tests.{lt-ltb, le-ltb, ltb-false}
 use Rattle.bits.specs.Choice.{if_then_else_}
 use Rattle.bits.proofs.Choice.{either}
 use Rattle.word.specs.declared.Word.{Word}
@@ -38,22 +38,26 @@ use Rattle.events.specs.Commands.{lineAnswer, onLine, pollOf, acknowledg
 use Rattle.events.specs.Functions.{oldestAnswer, forOldProgram, takeOf, lookOf, statusOf, setRateOf, callOf}
 use Rattle.events.specs.Step.{emptyOf, stepOf}
 use Rattle.events.specs.Run.{shownOf, next, run, after}
-use Rattle.events.specs.Refused.{isRefusal, accepted, RefusedChangeNothing, RefusedCallsChangeNothing}
+use Rattle.events.specs.Refused.{isRefusal, accepted, RefusedChangeNothing, RefusedCallsChangeNothing, AtMostFive}
 use Rattle.events.proofs.Calls.{call-by}
 
--- a refusal leaves the service as it was
+-- a refusal leaves the service as it was, and is one of 2 to 5
 record Keeps (service : Service) (outcome : Outcome) : Type 0 where
   kept : isRefusal (shownOf outcome) ≡ true → outcome .service ≡ service
+  few : ltb 0x85 (shownOf outcome .ans) ≡ false
 
 -- an answer that is no refusal
 record Accepts (answer : Answer) : Type 0 where
   low : ltb 0x7F (ansOf answer) ≡ false
 
-accepting : {service : Service} {outcome : Outcome} → Accepts (outcome .answer) → Keeps service outcome
-accepting h = record { kept = λ e. absurd (true≢false (sym e ∙ h .low)) }
+low-few : (answer : Answer) → Accepts answer → ltb 0x85 (ansOf answer) ≡ false
+low-few answer h = le-ltb 0x85 (ansOf answer) (omega (arith, ltb-false 0x7F (ansOf answer) (h .low)))
 
-unchanged : {service : Service} (outcome : Outcome) → outcome .service ≡ service → Keeps service outcome
-unchanged outcome e = record { kept = λ _. e }
+accepting : {service : Service} {outcome : Outcome} → Accepts (outcome .answer) → Keeps service outcome
+accepting h = record { kept = λ e. absurd (true≢false (sym e ∙ h .low)); few = low-few _ h }
+
+unchanged : {service : Service} (outcome : Outcome) → outcome .service ≡ service → ltb 0x85 (shownOf outcome .ans) ≡ false → Keeps service outcome
+unchanged outcome e few = record { kept = λ _. e; few = few }
 
 -- ---- the answers of keys and of the line
 
@@ -112,8 +116,8 @@ put-unstored q word =
 store-keeps : (service : Service) (word : Word) (after : AfterPut) → Unstored (service .queue) after
     → (stored : Bool) → after .stored ≡ stored → Keeps service (answeredOf (withQueue service (after .queue)) (if after .stored then Stored word else Refused refusal.Full))
 unfolding answeredOf if_then_else_
-store-keeps service word after h true e = record { kept = λ r. absurd (true≢false (sym r ∙ simp e)) }
-store-keeps service word after h false e = record { kept = λ _. ap (withQueue service) (h .kept e) }
+store-keeps service word after h true e = record { kept = λ r. absurd (true≢false (sym r ∙ simp e)); few = simp e }
+store-keeps service word after h false e = record { kept = λ _. ap (withQueue service) (h .kept e); few = simp e }
 
 take-keeps : (before service : Service) → Keeps before (takeOf service)
 unfolding takeOf answeredOf
@@ -133,9 +137,9 @@ call-keeps service function a b =
     (take-keeps service service)
     (look-keeps service service)
     (λ high low. accepting (record { low = refl }))
-    (either (Keeps service) _ _ _ (unchanged _ refl) (either (Keeps service) _ _ _ (unchanged _ refl) (accepting (record { low = refl }))))
+    (either (Keeps service) _ _ _ (unchanged _ refl refl) (either (Keeps service) _ _ _ (unchanged _ refl refl) (accepting (record { low = refl }))))
     (store-keeps service word (queue.putOf (service .queue) word) (put-unstored (service .queue) word) _ refl)
-    (unchanged _ refl)
+    (unchanged _ refl refl)
 
 step-keeps : (service : Service) (event : Event) → Keeps service (stepOf service event)
 unfolding stepOf pollOf timeOutOf emptyOf answeredOf restartOf
@@ -152,6 +156,9 @@ refused-step service event refused = step-keeps service event .kept refused
 
 pub refused-answer : (service : Service) (event : Event) (refusal : Refusal) → stepOf service event .answer ≡ Refused refusal → next service event ≡ service
 refused-answer service event refusal refused = refused-step service event (rw refused (lt-ltb 0x7F (ansOf (Refused refusal)) (omega arith)))
+
+pub at-most-five : AtMostFive
+at-most-five service event = ltb-false 0x85 _ (step-keeps service event .few)
 
 -- ---- lists
 

@@ -4,6 +4,7 @@ pub mod Keyboard
 pub mod Functions
 pub mod Commands
 pub mod Step
+pub mod Frames
 pub mod Run
 pub mod Resynchronised
 pub mod BenchCases

@@ -68,7 +68,7 @@ wordsAfter event Quiet words = words
 wordsAfter event GivenUp words = words
 wordsAfter event (Refused refusal) words = words
 
--- a word is put below 15 words, dropped or refused at 15, returned as the first
+-- a word is put below 15 words, dropped or refused at 15, returned as the first; no event is refused as a frame is
 abbrev pub Fits : Answer → List Word → Type 0
 Fits Nothing words = Unit {0}
 Fits (Put word) words = length words < capacity
@@ -90,6 +90,7 @@ Fits (Refused refusal.Function) words = Unit {0}
 Fits (Refused refusal.Delay) words = Unit {0}
 Fits (Refused refusal.Rate) words = Unit {0}
 Fits (Refused refusal.Full) words = length words ≡ capacity
+Fits (Refused (refusal.Frame fault)) words = ⊥
 
 -- an event does to the words that it found what its answer says
 pub record Listed (service : Service) (event : Event) : Type 0 where

@@ -1,5 +1,6 @@
--- Refused C events change nothing.
+-- Refused C events change nothing, and no event is refused by a number above 5.
 -- Assumes nothing.
+use Prim.Native.Nat.{_≤_}
 use mathlib.Core.Path.{_≡_}
 use mathlib.Core.Bool.{Bool}
 use mathlib.Core.List.{List, [], _∷_}
@@ -33,3 +34,7 @@ pub record RefusedChangeNothing (service : Service) (events : List Event) : Type
 
 abbrev pub RefusedCallsChangeNothing : Type 0
 RefusedCallsChangeNothing = (service : Service) (events : List Event) → RefusedChangeNothing service events
+
+-- the numbers above 5 are for calls that run no event
+abbrev pub AtMostFive : Type 0
+AtMostFive = (service : Service) (event : Event) → shownOf (stepOf service event) .ans ≤ 0x85

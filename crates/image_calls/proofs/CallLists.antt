@@ -9,30 +9,37 @@ use borrow.Author.Tests.{eqb-true, le-ltb}
 use Rattle.bits.specs.Choice.{if_then_else_}
 use Rattle.bits.proofs.Choice.{by-test, either}
 use Rattle.bits.proofs.Bytes.{byte-most}
+use Rattle.frame.specs.declared.Fault.{Fault}
+use Rattle.frame.specs.declared.Fault.the-variants.{Start, Parity, Stop}
+use Rattle.frame.specs.declared.Reading.{Reading}
+use Rattle.frame.specs.declared.Reading.the-variants as reading
+use Rattle.frame.specs.Frame.{readFrame, faultNumber}
 use Rattle.state.specs.declared.Service.{Service}
 use Rattle.state.specs.State.{newService, makeOf}
 use Rattle.state.specs.Flags.{byte17Of}
 use Rattle.events.specs.declared.Event.{Event}
+use Rattle.events.specs.declared.Event.the-variants.{Key}
 use Rattle.events.specs.declared.Outcome.{Outcome}
 use Rattle.events.specs.Step.{stepOf}
 use Rattle.events.specs.Run.{Shown, next}
 use Rattle.events.specs.Resynchronised.{standingLocks, remade}
 use Rattle.events.proofs.RefusedCalls.{refused-step}
 use Rattle.events.proofs.Ranges.{stays-in-range}
-use Rattle.events.proofs.SentCounts.{sent-is-counted}
 use Rattle.report.specs.declared.Reported.{Reported}
 use Rattle.report.specs.Report.{reportOf}
 use Rattle.report.specs.Reported.{tooShort, reportedOf}
-use Rattle.lists.specs.Items.{Item, runs, reports, Seen, stepItem, nextItem, afterItems, seenItems, shownIn}
-use Rattle.lists.proofs.ItemLaws.{items-show, events-as-items}
+use Rattle.lists.specs.Items.{Item, runs, reports, receives, Seen, Stepped, answered, stepItem, afterItems, seenItems, shownIn}
+use Rattle.lists.specs.ItemLaws.{refusedFrameStep}
+use Rattle.lists.proofs.ItemLaws.{accepted-is-key, refused-runs-nothing}
+use Rattle.lists.proofs.EventLaws.{sent-over-items}
 use Rattle.lists.proofs.Demand3.{demand-3}
 use Rattle.image.specs.declared.Image.{Image}
 use Rattle.image.specs.Image.{imageOf, serviceOf}
 use Rattle.image.proofs.ImageLaws.{reads-in-range, comes-back}
 use Rattle.image_calls.specs.declared.Changed.{Changed}
 use Rattle.image_calls.specs.declared.Refused.{Refused}
-use Rattle.image_calls.specs.Exports.{shownToC, stepIn, triedIn, makeTo}
-use Rattle.image_calls.specs.CallLists.{Called, callOn, afterCalls, seenCalls, Follows, ImagesFollow, made, ImagesForget, ImagesCount}
+use Rattle.image_calls.specs.Exports.{shownToC, stepIn, refusedIn, framedIn, triedIn, makeTo}
+use Rattle.image_calls.specs.CallLists.{Called, answeredBy, callOn, afterCalls, seenCalls, Follows, ImagesFollow, made, ImagesForget, ImagesCount}
 use Rattle.image_calls.proofs.Events.{step-shows, tried-by}
 use Rattle.image_calls.proofs.ExportLaws.{tags-recognised}
 
@@ -67,18 +74,33 @@ report-refuses image refusal after =
     by-test (λ (tried : Refused). tried .refusal ≡ refusal) (eqb refusal 0) _ _ (λ none. sym (eqb-true refusal 0 none)) (λ _. refl)
 
 -- a call does what its item does
-record Alike (image : Image) (item : Item) (called : Called) : Type 0 where
-  leaves : serviceOf (called .image) ≡ nextItem (serviceOf image) item
-  shows : called .seen ≡ stepItem (serviceOf image) item .seen
+record Alike (stepped : Stepped) (called : Called) : Type 0 where
+  leaves : serviceOf (called .image) ≡ stepped .service
+  shows : called .seen ≡ stepped .seen
 
-alike : (image : Image) (item : Item) → Alike image item (callOn image item)
+event-alike : (image : Image) (event : Event) → Alike (stepItem (serviceOf image) (runs event)) (answeredBy (stepIn image event))
 unfolding stepItem
-alike image (runs event) =
-    rw (tags-recognised event) (record { leaves = step-leaves image event; shows = rw (step-shows image event) })
+event-alike image event = record { leaves = step-leaves image event; shows = ap answered (step-shows image event) }
+
+refused-alike : (image : Image) (fault : Fault) → Alike (refusedFrameStep (serviceOf image) fault) (answeredBy (refusedIn image (faultNumber fault)))
+unfolding refusedIn
+refused-alike image Start = record { leaves = refl; shows = refl }
+refused-alike image Parity = record { leaves = refl; shows = refl }
+refused-alike image Stop = record { leaves = refl; shows = refl }
+
+frame-alike : (image : Image) (frame : ℕ) (read : Reading) → readFrame frame ≡ read
+    → Alike (stepItem (serviceOf image) (receives frame)) (answeredBy (framedIn image read))
+frame-alike image frame (reading.Byte byte) is = rw (accepted-is-key (serviceOf image) frame byte is) (event-alike image (Key byte))
+frame-alike image frame (reading.Refused fault) is = rw (refused-runs-nothing (serviceOf image) frame fault is) (refused-alike image fault)
+
+alike : (image : Image) (item : Item) → Alike (stepItem (serviceOf image) item) (callOn image item)
+unfolding stepItem
+alike image (runs event) = rw (tags-recognised event) (event-alike image event)
 alike image (reports event buffer) =
     let told = reportedOf (serviceOf image) event buffer in
     rw (tags-recognised event)
     (record { leaves = report-leaves image event buffer; shows = rw (report-refuses image (told .refusal) (told .service), step-shows image event) })
+alike image (receives frame) = frame-alike image frame (readFrame frame) refl
 
 -- ---- lists
 
@@ -135,9 +157,5 @@ images-forget image other locks most first settling further ran =
     ∙ sym (seen-made other (standingLocks (serviceOf settled)) (locks-most (serviceOf settled)) further)
 
 pub images-count : ImagesCount
-images-count image locks most items events ran =
-    let start = newService locks in
-    let sents : List Seen → List ℕ = λ seen. map (λ (s : Shown). s .sent) (shownIn seen) in
-    ap sents (seen-made image locks most items)
-    ∙ ap (map (λ (s : Shown). s .sent)) (items-show start items ∙ ap (λ (done : List Item). shownIn (seenItems start done)) ran ∙ events-as-items start events .shows)
-    ∙ sent-is-counted locks events
+images-count image locks most items =
+    ap (λ (seen : List Seen). map (λ (s : Shown). s .sent) (shownIn seen)) (seen-made image locks most items) ∙ sent-over-items .counted locks items

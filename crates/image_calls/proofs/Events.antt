@@ -9,6 +9,7 @@ use lib.ListN.{length}
 use borrow.Author.Tests.{eqb-true, le-ltb, lt-ltb}
 use Rattle.bits.specs.Choice.{if_then_else_}
 use Rattle.bits.proofs.Choice.{by-test, either}
+use Rattle.frame.specs.declared.Fault.the-variants.{Start, Parity, Stop}
 use Rattle.answers.specs.declared.Refusal.the-variants as refusal
 use Rattle.answers.specs.declared.Answer.{Answer}
 use Rattle.answers.specs.declared.Answer.the-variants as answer
@@ -34,7 +35,7 @@ use Rattle.image_calls.specs.declared.Changed.{Changed}
 use Rattle.image_calls.specs.declared.Refused.{Refused}
 use Rattle.image_calls.specs.declared.Recognised.{Recognised}
 use Rattle.image_calls.specs.declared.Recognised.the-variants as recognised-as
-use Rattle.image_calls.specs.Exports.{shownWith, seen, shownToC, changedBy, stepIn, unknownIn, recognised, isUnknown, ranOf, taggedIn, triedIn, reportedAs, writtenAs}
+use Rattle.image_calls.specs.Exports.{shownWith, seen, shownToC, changedBy, stepIn, refusedIn, recognised, isUnknown, ranOf, taggedIn, triedIn, reportedAs, writtenAs}
 
 -- ---- an event
 
@@ -45,7 +46,7 @@ made image ran =
     if ltb 0x7F (ran .ans) then record { image = image; shown = shown } else record { image = imageOf (ran .service); shown = shown }
 
 made-tagged : (image : Image) (event : Recognised) → made image (ranOf (serviceOf image) event) ≡ taggedIn image event
-unfolding unknownIn stepIn shownToC stepOf callOf answeredOf if_then_else_
+unfolding refusedIn stepIn shownToC stepOf callOf answeredOf if_then_else_
 made-tagged image recognised-as.Unknown = refl
 made-tagged image (recognised-as.Event event) = refl
 
@@ -100,6 +101,9 @@ tried-by image after sent (answer.Refused refusal.Function) = refl
 tried-by image after sent (answer.Refused refusal.Delay) = refl
 tried-by image after sent (answer.Refused refusal.Rate) = refl
 tried-by image after sent (answer.Refused refusal.Full) = refl
+tried-by image after sent (answer.Refused (refusal.Frame Start)) = refl
+tried-by image after sent (answer.Refused (refusal.Frame Parity)) = refl
+tried-by image after sent (answer.Refused (refusal.Frame Stop)) = refl
 
 -- the tag that was recognised is the tag of the event
 abbrev Named : Tagged → Recognised → Type 0

@@ -10,6 +10,9 @@ use lib.Dec.{ltb}
 use lib.ListN.{length}
 use Rattle.bits.specs.Choice.{if_then_else_}
 use Rattle.bits.proofs.Choice.{by-test}
+use Rattle.frame.specs.declared.Reading.{Reading}
+use Rattle.frame.specs.declared.Reading.the-variants as reading
+use Rattle.frame.specs.Frame.{readFrame}
 use Rattle.state.specs.declared.Service.{Service}
 use Rattle.events.specs.declared.Event.{Event}
 use Rattle.events.specs.declared.Event.the-variants.{Key, Call, Poll, TimeOut, Empty, Restart}
@@ -24,7 +27,7 @@ use Rattle.image_calls.specs.declared.Recognised.the-variants as recogni
 use Rattle.image_calls.specs.declared.Changed.{Changed}
 use Rattle.image_calls.specs.declared.Refused.{Refused}
 use Rattle.image.specs.Image.{imageOf, serviceOf}
-use Rattle.image_calls.specs.Exports.{shownToC, stepIn, unknownIn, recognised, taggedIn, triedIn, reportedAs, writtenAs, makeTo}
+use Rattle.image_calls.specs.Exports.{shownToC, stepIn, refusedIn, recognised, taggedIn, framedIn, triedIn, reportedAs, writtenAs, makeTo}
 use Rattle.image_calls.specs.ExportLaws.{TagsRecognised, Leaves, UnknownRefused}
 
 pub tags-recognised : TagsRecognised
@@ -47,9 +50,14 @@ step-leaves image event =
     (λ _ _. refl) (λ accepted refused. absurd (true≢false (sym refused ∙ accepted)))
 
 tagged-leaves : (image : Image) (event : Recognised) → ltb 0x7F (taggedIn image event .shown .ans) ≡ true → taggedIn image event .image ≡ image
-unfolding unknownIn
+unfolding refusedIn
 tagged-leaves image recognised-as.Unknown refused = refl
 tagged-leaves image (recognised-as.Event event) refused = step-leaves image event refused
+
+framed-leaves : (image : Image) (read : Reading) → ltb 0x7F (framedIn image read .shown .ans) ≡ true → framedIn image read .image ≡ image
+unfolding refusedIn
+framed-leaves image (reading.Byte byte) refused = step-leaves image (Key byte) refused
+framed-leaves image (reading.Refused fault) refused = refl
 
 tried-leaves : (image : Image) (refusal : ℕ) (after : Service) → triedIn image refusal after .refusal ≢ 0 → triedIn image refusal after .image ≡ image
 unfolding triedIn
@@ -72,10 +80,11 @@ pub leaves : Leaves
 leaves = record {
   make = make-leaves;
   event = λ image tagged. tagged-leaves image (recognised tagged);
+  frame = λ image frame. framed-leaves image (readFrame frame);
   report = λ image tagged. report-leaves image (recognised tagged);
   short = λ image tagged. short-leaves image (recognised tagged);
 }
 
 pub unknown-refused : UnknownRefused
-unfolding unknownIn
+unfolding refusedIn
 unknown-refused image tagged buffer unknown = record { ans = rw unknown; word = rw unknown; result = rw unknown; unwritten = rw unknown }

@@ -1,38 +1,41 @@
--- Lists of calls on an image that C keeps, events and reported events in any order. CallLists.antt of proofs/ proves each sentence.
+-- Lists of calls on an image that C keeps, events, reported events and frames in any order. CallLists.antt of proofs/ proves each sentence.
 -- Assumes nothing.
 use Prim.Native.Nat.{ℕ, _/_, _≤_}
 use mathlib.Core.Path.{_≡_}
 use mathlib.Core.List.{List, [], _∷_, _++_, map}
 use Rattle.state.specs.State.{newService}
-use Rattle.events.specs.declared.Event.{Event}
 use Rattle.events.specs.Run.{Shown}
 use Rattle.events.specs.Resynchronised.{resynchronisation}
 use Rattle.events.specs.Sent.{countsOf}
-use Rattle.lists.specs.Items.{Item, runs, reports, Seen, unlessNine, afterItems, ranItems, seenItems, shownIn}
+use Rattle.lists.specs.Items.{Item, runs, reports, receives, Seen, answered, whereRan, afterItems, ranItems, seenItems, shownIn}
+use Rattle.lists.specs.EventLaws.{ranEvents}
 use Rattle.image.specs.declared.Image.{Image}
 use Rattle.image.specs.Image.{serviceOf}
-use Rattle.image_calls.specs.Exports.{seen, written, eventTo, makeTo, reportTo, writtenTo, flagsTo}
+use Rattle.image_calls.specs.declared.Changed.{Changed}
+use Rattle.image_calls.specs.Exports.{seen, written, eventTo, frameTo, makeTo, reportTo, writtenTo, flagsTo}
 
 -- an item of a list as the call for C that it is: what the image is after it, and what is seen
 pub record Called : Type 0 where
   pub image : Image
   pub seen : Seen
 
+abbrev pub answeredBy : Changed → Called
+answeredBy changed = record { image = changed .image; seen = answered (seen (changed .shown)) }
+
 abbrev pub callOn : Image → Item → Called
-callOn image (runs event) =
-    let changed = eventTo image (written event) in
-    record { image = changed .image; seen = record { shown = seen (changed .shown) ∷ []; refusal = 0; buffer = [] } }
+callOn image (runs event) = answeredBy (eventTo image (written event))
 callOn image (reports event buffer) =
     let told = reportTo image (written event) buffer in
     record {
       image = told .image;
       seen =
           record {
-            shown = unlessNine (told .refusal) (seen (eventTo image (written event) .shown));
+            shown = whereRan (told .refusal) (seen (eventTo image (written event) .shown) ∷ []);
             refusal = told .refusal;
             buffer = writtenTo image (written event) buffer;
           };
     }
+callOn image (receives frame) = answeredBy (frameTo image frame)
 
 abbrev pub afterCalls : Image → List Item → Image
 afterCalls image [] = image
@@ -55,8 +58,8 @@ ImagesFollow = (image : Image) (items : List Item) → Follows image items
 abbrev pub made : Image → ℕ → Image
 made image locks = makeTo image locks .image
 
--- Demand 3 of images: any calls, the all-up run with E and R, and any further calls, with reports that 9 refuses anywhere; the further calls
--- are seen as on an image made with the lock bits that stand
+-- Demand 3 of images: any calls, the all-up run with E and R, and any further calls, with bytes as events or frames, and refused reports and
+-- frames anywhere; the further calls are seen as on an image made with the lock bits that stand
 abbrev pub ImagesForget : Type 0
 ImagesForget =
     (image other : Image) (locks : ℕ) → locks ≤ 15 → (first settling further : List Item) →
@@ -67,6 +70,6 @@ ImagesForget =
 -- sent counts the bytes that the events that ran show as sent
 abbrev pub ImagesCount : Type 0
 ImagesCount =
-    (image : Image) (locks : ℕ) → locks ≤ 15 → (items : List Item) (events : List Event) →
-    ranItems (newService locks) items ≡ map runs events →
-    map (λ (s : Shown). s .sent) (shownIn (seenCalls (made image locks) items)) ≡ countsOf (newService locks) 0 events
+    (image : Image) (locks : ℕ) → locks ≤ 15 → (items : List Item) →
+    let new = newService locks in
+    map (λ (s : Shown). s .sent) (shownIn (seenCalls (made image locks) items)) ≡ countsOf new 0 (ranEvents new items)

@@ -1,11 +1,14 @@
 -- The calls for C: what each leaves in the image that is lent, what it returns, and what it writes. A call that is refused, by any number,
 -- leaves the image as it was, number for number.
 -- Assumes nothing.
-use Prim.Native.Nat.{ℕ}
+use Prim.Native.Nat.{ℕ, _+_}
 use mathlib.Core.Bool.{Bool, true, false}
 use mathlib.Core.List.{List}
 use lib.Dec.{eqb, ltb}
 use Rattle.bits.specs.Choice.{if_then_else_}
+use Rattle.frame.specs.declared.Reading.{Reading}
+use Rattle.frame.specs.declared.Reading.the-variants as reading
+use Rattle.frame.specs.Frame.{readFrame, faultNumber}
 use Rattle.line.specs.State.{sentOf}
 use Rattle.state.specs.declared.Service.{Service}
 use Rattle.events.specs.declared.Event.{Event}
@@ -70,9 +73,11 @@ changedBy image outcome =
 unfoldable pub stepIn : Image → Event → Changed
 stepIn image event = changedBy image (stepOf (serviceOf image) event)
 
--- refusal 6: the flags and the count of bytes sent are shown as they stand
-unfoldable pub unknownIn : Image → Changed
-unknownIn image = let service = serviceOf image in record { image = image; shown = shownWith (flagBytesOf service) 0x86 0 (sentOf (service .line)) }
+-- refused before any event: the flags and the count of bytes sent are shown as they stand
+unfoldable pub refusedIn : Image → ℕ → Changed
+refusedIn image number =
+    let service = serviceOf image in
+    record { image = image; shown = shownWith (flagBytesOf service) (0x80 + number) 0 (sentOf (service .line)) }
 
 -- an event by its tag and bytes; those that it does not use are 0 here, and any number will do
 abbrev pub written : Event → Tagged
@@ -117,11 +122,19 @@ ranOf service event =
     }
 
 abbrev pub taggedIn : Image → Recognised → Changed
-taggedIn image recognised-as.Unknown = unknownIn image
+taggedIn image recognised-as.Unknown = refusedIn image 6
 taggedIn image (recognised-as.Event event) = stepIn image event
 
 abbrev pub eventTo : Image → Tagged → Changed
 eventTo image tagged = taggedIn image (recognised tagged)
+
+-- a frame: the event of its byte, or refused by the number of its fault
+abbrev pub framedIn : Image → Reading → Changed
+framedIn image (reading.Byte byte) = stepIn image (Key byte)
+framedIn image (reading.Refused fault) = refusedIn image (faultNumber fault)
+
+abbrev pub frameTo : Image → ℕ → Changed
+frameTo image frame = framedIn image (readFrame frame)
 
 -- the image of what a call left, or refused by its number
 unfoldable pub triedIn : Image → ℕ → Service → Refused

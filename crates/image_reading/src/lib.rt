@@ -11,8 +11,8 @@ use image_calls::Reading;
 use image_calls::Tagged;
 use pack::Read;
 
-// Bytes that an event does not use are 0.
-fn tagged_of(event: Event) -> Tagged
+// An event by its tag and bytes. Those that it does not use are 0.
+pub fn tagged_of(event: Event) -> Tagged
     ensures { λ r. ⌜ r ≡ written event ⌝ }
 {
     let tag = tags::tag_of(event);

@@ -5,12 +5,14 @@ use borrow.Author.Tests.{lt-ltb, le-ltb}
 use Rattle.bits.specs.Choice.{if_then_else_}
 use Rattle.bits.proofs.Choice.{by-test}
 use Rattle.state.specs.State.{makeOf}
+use Rattle.events.specs.Outcomes.{answeredOf}
+use Rattle.events.specs.Frames.{frameStepOf}
 use Rattle.events.proofs.RefusedCalls.{refused-answer}
 use Rattle.report.specs.declared.Reported.{Reported}
 use Rattle.report.specs.Reported.{reportedOf, tooShort}
 use Rattle.report.proofs.BufferLaws.{short-refused}
-use Rattle.lent.specs.Lent.{madeIn, eventIn, reportedIn}
-use Rattle.lent.specs.LentLaws.{Makes, RefusedLeaves, ShortUntouched, RefusedReportLeaves}
+use Rattle.lent.specs.Lent.{madeIn, eventIn, frameIn, reportedIn}
+use Rattle.lent.specs.LentLaws.{Makes, RefusedLeaves, Frames, ShortUntouched, RefusedReportLeaves}
 
 pub makes : Makes
 unfolding madeIn makeOf if_then_else_
@@ -22,6 +24,10 @@ makes = record {
 pub refused-leaves : RefusedLeaves
 unfolding eventIn
 refused-leaves service event refused is = refused-answer service event refused is
+
+pub frames : Frames
+unfolding frameIn eventIn frameStepOf answeredOf
+frames = record { refused = λ service frame fault is. rw is; accepted = λ service frame byte is. rw is }
 
 pub short-untouched : ShortUntouched
 unfolding reportedIn

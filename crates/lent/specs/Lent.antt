@@ -10,6 +10,7 @@ use Rattle.events.specs.declared.Outcome.{Outcome}
 use Rattle.state.specs.declared.Made.{Made}
 use Rattle.state.specs.State.{makeOf}
 use Rattle.events.specs.Step.{stepOf}
+use Rattle.events.specs.Frames.{frameStepOf}
 use Rattle.events.specs.Run.{after}
 use Rattle.events.specs.Resynchronised.{resynchronisation}
 use Rattle.answers.specs.declared.Answer.the-variants.{Done}
@@ -36,6 +37,9 @@ steppedOf outcome = record { service = outcome .service; answered = answeredBy o
 
 unfoldable pub eventIn : Service → Event → Stepped
 eventIn service event = steppedOf (stepOf service event)
+
+unfoldable pub frameIn : Service → ℕ → Stepped
+frameIn service frame = steppedOf (frameStepOf service frame)
 
 abbrev pub tellsOf : Reported → Tried
 tellsOf reported = record { service = reported .service; refusal = reported .refusal }

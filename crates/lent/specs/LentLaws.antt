@@ -4,14 +4,20 @@ use Prim.Native.Nat.{ℕ, _<_, _≤_}
 use mathlib.Core.Path.{_≡_}
 use mathlib.Core.List.{List}
 use lib.ListN.{length}
+use Rattle.frame.specs.declared.Fault.{Fault}
+use Rattle.frame.specs.declared.Reading.the-variants as reading
+use Rattle.frame.specs.Frame.{readFrame}
+use Rattle.line.specs.State.{sentOf}
 use Rattle.state.specs.declared.Service.{Service}
 use Rattle.events.specs.declared.Event.{Event}
+use Rattle.events.specs.declared.Event.the-variants.{Key}
 use Rattle.answers.specs.declared.Refusal.{Refusal}
+use Rattle.answers.specs.declared.Refusal.the-variants.{Frame}
 use Rattle.answers.specs.declared.Answer.the-variants.{Refused}
 use Rattle.state.specs.State.{newService}
 use Rattle.events.specs.Step.{stepOf}
 use Rattle.report.specs.Reported.{reportLength, bufferOf}
-use Rattle.lent.specs.Lent.{madeIn, eventIn, reportedIn}
+use Rattle.lent.specs.Lent.{madeIn, eventIn, frameIn, reportedIn}
 
 -- 1: lock bits above 15 leave the service that is lent; others make a new one of it
 pub record Makes : Type 0 where
@@ -23,6 +29,12 @@ abbrev pub RefusedLeaves : Type 0
 RefusedLeaves =
     (service : Service) (event : Event) (refusal : Refusal) → eventIn service event .answered .answer ≡ Refused refusal →
     eventIn service event .service ≡ service
+
+-- 11 to 13: a frame that is refused; any other does what the event of its byte does
+pub record Frames : Type 0 where
+  pub refused : (service : Service) (frame : ℕ) (fault : Fault) → readFrame frame ≡ reading.Refused fault →
+      frameIn service frame ≡ record { service = service; answered = record { answer = Refused (Frame fault); sent = sentOf (service .line) } }
+  pub accepted : (service : Service) (frame byte : ℕ) → readFrame frame ≡ reading.Byte byte → frameIn service frame ≡ eventIn service (Key byte)
 
 -- 9 leaves the service and every byte of the buffer
 pub record Untouched (service : Service) (event : Event) (buffer : List ℕ) : Type 0 where

@@ -1,7 +1,7 @@
 // What each lent call does, by value: the service that it leaves and what it returns.
 ghost use mathlib.Core.Path.{_≡_};
 ghost use Rattle.report.specs.Reported.{bufferOf};
-ghost use Rattle.lent.specs.Lent.{madeIn, resynchronisedIn, steppedOf, eventIn, reportedIn};
+ghost use Rattle.lent.specs.Lent.{madeIn, resynchronisedIn, steppedOf, eventIn, frameIn, reportedIn};
 use crate::Answered;
 use crate::Stepped;
 use crate::Tried;
@@ -44,6 +44,12 @@ pub fn event(service: Service, event: Event) -> Stepped
     ensures { λ r. ⌜ r ≡ eventIn service event ⌝ }
 {
     stepped(service::step(service, event))
+}
+
+pub fn frame(service: Service, frame: u16) -> Stepped
+    ensures { λ r. ⌜ r ≡ frameIn service frame ⌝ }
+{
+    stepped(service::frame(service, frame))
 }
 
 pub fn report(service: Service, event: Event, buffer: &mut [u8]) -> Tried

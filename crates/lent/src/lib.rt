@@ -1,20 +1,20 @@
 // The service lent and changed in place: thin calls over the calls by value.
 ghost use mathlib.Core.Path.{_≡_};
 ghost use Rattle.report.specs.Reported.{bufferOf};
-ghost use Rattle.lent.specs.Lent.{madeIn, eventIn, reportedIn, resynchronisedIn};
+ghost use Rattle.lent.specs.Lent.{madeIn, eventIn, frameIn, reportedIn, resynchronisedIn};
 use answers::Answer;
 use events::Event;
 use state::Service;
 
 pub mod by_value;
 
-// What an event answers. `sent` counts the bytes of the command that runs or ended.
+// What an event or a frame answers. `sent` counts the bytes of the command that runs or ended.
 pub struct Answered {
     pub answer: Answer,
     pub sent: u8,
 }
 
-// What an event leaves and answers.
+// What an event or a frame leaves and answers.
 pub struct Stepped {
     pub service: Service,
     pub answered: Answered,
@@ -42,6 +42,16 @@ pub fn event(service: &mut Service, event: Event) -> Answered
         × (r ≡ eventIn (now (service .entry)) event .answered) ⌝ }
 {
     let stepped = by_value::event(*service, event);
+    *service = stepped.service;
+    stepped.answered
+}
+
+// One frame.
+pub fn frame(service: &mut Service, frame: u16) -> Answered
+    ensures { λ r. ⌜ (now (service .exit) ≡ frameIn (now (service .entry)) frame .service)
+        × (r ≡ frameIn (now (service .entry)) frame .answered) ⌝ }
+{
+    let stepped = by_value::frame(*service, frame);
     *service = stepped.service;
     stepped.answered
 }

@@ -1,15 +1,18 @@
 -- Demand 3: the two services are equal, so whatever is seen from them is.
 -- Assumes nothing.
-use mathlib.Core.Path.{_≡_, ap, sym, _∙_}
+use mathlib.Core.Path.{_≡_, refl, ap, sym, _∙_}
 use mathlib.Core.List.{List, _++_, map}
+use lib.Count.{ones, onesIn}
+use Rattle.bits.specs.Choice.{if_then_else_}
+use Rattle.frame.specs.Frame.{frameOf, readFrame}
 use Rattle.state.specs.declared.Service.{Service}
 use Rattle.state.specs.State.{newService}
 use Rattle.events.specs.Run.{after}
 use Rattle.events.specs.Resynchronised.{resynchronisation, remade}
 use Rattle.events.proofs.Lists.{after-append}
 use Rattle.events.proofs.Resynchronised.{resynchronises}
-use Rattle.lists.specs.Items.{Item, runs, afterItems, ranItems, seenItems, shownIn}
-use Rattle.lists.specs.Demand3.{Demand3, Demand3OfEvents, Demand3Printed}
+use Rattle.lists.specs.Items.{Item, runs, stepItem, afterItems, ranItems, seenItems, shownIn}
+use Rattle.lists.specs.Demand3.{Demand3, RunByFrames, Demand3OfEvents, Demand3Printed}
 use Rattle.lists.proofs.ItemLaws.{items-leave, events-as-items, after-items-append}
 use Rattle.report.proofs.ListLaws.{run-prints}
 
@@ -26,7 +29,11 @@ demand-3 locks most first settling further ran =
     rw (after-items-append start first settling)
     (ap (λ (s : Service). seenItems s further) (settled-as-new (afterItems start first) settling ran))
 
--- by runs events throughout
+pub run-by-frames : RunByFrames
+unfolding stepItem frameOf readFrame if_then_else_ ones onesIn
+run-by-frames service = refl
+
+-- where every item runs its event
 pub demand-3-of-events : Demand3OfEvents
 demand-3-of-events locks most first further =
     let start = newService locks in

@@ -1,25 +1,38 @@
--- The laws that ItemLaws.antt of specs/ states. A new kind of item adds a clause to `item-alike` and nothing else here.
+-- The laws that ItemLaws.antt of specs/ states. A new kind of item adds the laws of its step and a clause to `by-item`; the rest goes over that.
 -- Assumes nothing.
-use Prim.Native.Nat.{ℕ, suc, _≤_}
+use Prim.Native.Nat.{ℕ, suc}
 use mathlib.Core.Path.{_≡_, refl, ap, sym, subst, _∙_}
 use mathlib.Core.Bool.{false}
-use mathlib.Core.List.{List, [], _∷_, _++_, append-assoc}
-use lib.Dec.{eqb}
+use mathlib.Core.List.{List, [], _∷_, _++_, map, append-assoc}
+use lib.Dec.{ltb}
 use native.Mathlib.Omega.{arith}
-use borrow.Author.Tests.{ltb-true, ltb-false, ne-eqb}
+use borrow.Author.Tests.{ltb-true, ltb-false, le-ltb}
 use Rattle.bits.specs.Choice.{if_then_else_}
 use Rattle.bits.proofs.Choice.{by-test}
+use Rattle.frame.specs.declared.Fault.{Fault}
+use Rattle.frame.specs.declared.Fault.the-variants.{Start, Parity, Stop}
+use Rattle.frame.specs.declared.Reading.{Reading}
+use Rattle.frame.specs.declared.Reading.the-variants.{Byte, Refused}
+use Rattle.frame.specs.Frame.{frameOf, readFrame}
+use Rattle.frame.proofs.OneFrameEach.{one-frame-each}
 use Rattle.state.specs.declared.Service.{Service}
 use Rattle.events.specs.declared.Event.{Event}
+use Rattle.events.specs.declared.Event.the-variants.{Key}
+use Rattle.events.specs.Outcomes.{answeredOf}
 use Rattle.events.specs.Step.{stepOf}
+use Rattle.events.specs.Frames.{onFrame, frameStepOf}
 use Rattle.events.specs.Run.{shownOf, next}
+use Rattle.events.proofs.RefusedCalls.{at-most-five}
 use Rattle.report.specs.Report.{reportOf}
-use Rattle.report.specs.Reported.{eventReport, refusalIn, tooShort}
-use Rattle.lists.specs.Items.{Item, runs, reports, Seen, Stepped, stepItem, nextItem, afterItems, ranItems, seenItems, shownIn}
-use Rattle.lists.specs.ItemLaws.{refusedStep, ShortRunsNothing, reportedStep, LongRuns, ItemsLeave, ItemsShow, EachSeen, EventsAsItems, Between, NothingBetween, RefusedBetween}
-use Rattle.report.proofs.BufferLaws.{short-refused, long-reported, long-buffer, at-most-five}
+use Rattle.report.specs.Reported.{refusalIn, tooShort}
+use Rattle.report.proofs.BufferLaws.{short-refused, long-reported, long-buffer}
+use Rattle.lists.specs.Items.{Item, runs, reports, receives, Seen, Stepped, answered, whereRan, fedBy, stepItem, nextItem, afterItems, ranItems, seenItems, shownIn}
+use Rattle.lists.specs.ItemLaws.{refusedStep, ShortRunsNothing, reportedStep, LongRuns, AcceptedIsKey, refusedFrameStep, RefusedRunsNothing, ItemsLeave, ItemsShow, EachSeen, EventsAsItems, receivesByte, FramesAsKeys, Between, NothingBetween, RefusedBetween}
 
--- ---- a report: its buffer is too short or not
+-- ---- an event that ran, and a report by the length of its buffer
+
+none-above-five : (service : Service) (event : Event) → ltb 5 (refusalIn (shownOf (stepOf service event) .ans)) ≡ false
+none-above-five service event = le-ltb 5 (refusalIn (shownOf (stepOf service event) .ans)) (omega (arith, at-most-five service event))
 
 pub short-runs-nothing : ShortRunsNothing
 unfolding stepItem if_then_else_
@@ -30,10 +43,7 @@ short-runs-nothing service event buffer short =
 pub long-runs : LongRuns
 unfolding stepItem if_then_else_ reportOf
 long-runs service event buffer long =
-    let number = refusalIn (eventReport service event .ans) in
-    let few : number ≤ 5 = at-most-five (stepOf service event .answer) in
-    let ran : eqb number 9 ≡ false = ne-eqb _ _ (λ (nine : number ≡ 9). omega arith) in
-    simp (long-reported service event buffer long, long-buffer service event buffer long, ran)
+    simp (long-reported service event buffer long, long-buffer service event buffer long, none-above-five service event)
 
 by-length : (P : Stepped → Type 0) (service : Service) (event : Event) (buffer : List ℕ)
     → P (refusedStep service buffer) → P (reportedStep service event buffer) → P (stepItem service (reports event buffer))
@@ -42,18 +52,72 @@ by-length P service event buffer short long =
     (λ test. rw (short-runs-nothing service event buffer (ltb-true _ _ test)) short)
     (λ test. rw (long-runs service event buffer (ltb-false _ _ test)) long)
 
--- ---- one item
+-- ---- a frame, by what it carries
+
+abbrev framed : Service → Reading → Stepped
+framed service reading =
+    let outcome = onFrame service reading in
+    record { service = outcome .service; ran = fedBy reading; seen = answered (shownOf outcome) }
+
+pub accepted-is-key : AcceptedIsKey
+unfolding stepItem frameStepOf
+accepted-is-key service frame byte is = ap (framed service) is
+
+pub refused-runs-nothing : RefusedRunsNothing
+unfolding stepItem frameStepOf answeredOf
+refused-runs-nothing service frame fault is = ap (framed service) is ∙ numbered fault
+  where
+    numbered : (fault : Fault) → framed service (Refused fault) ≡ refusedFrameStep service fault
+    numbered Start = refl
+    numbered Parity = refl
+    numbered Stop = refl
+
+by-reading : (P : Stepped → Type 0) (service : Service) (frame : ℕ)
+    → ((byte : ℕ) → P (stepItem service (runs (Key byte)))) → ((fault : Fault) → P (refusedFrameStep service fault))
+    → P (stepItem service (receives frame))
+by-reading P service frame byte fault = split (readFrame frame) refl
+  where
+    split : (reading : Reading) → readFrame frame ≡ reading → P (stepItem service (receives frame))
+    split (Byte b) is = rw (accepted-is-key service frame b is) (byte b)
+    split (Refused f) is = rw (refused-runs-nothing service frame f is) (fault f)
+
+-- ---- any item
+
+-- a property of all steps, from those of an event, a refused report, a report and a refused frame
+pub by-item : (P : Stepped → Type 0) (service : Service)
+    → ((event : Event) → P (stepItem service (runs event)))
+    → ((buffer : List ℕ) → P (refusedStep service buffer))
+    → ((event : Event) (buffer : List ℕ) → P (reportedStep service event buffer))
+    → ((fault : Fault) → P (refusedFrameStep service fault))
+    → (item : Item) → P (stepItem service item)
+by-item P service run short long fault (runs event) = run event
+by-item P service run short long fault (reports event buffer) = by-length P service event buffer (short buffer) (long event buffer)
+by-item P service run short long fault (receives frame) = by-reading P service frame (λ byte. run (Key byte)) fault
 
 -- what ran of an item leaves and shows the same
 record Alike (service : Service) (stepped : Stepped) : Type 0 where
   leaves : stepped .service ≡ afterItems service (stepped .ran)
-  shows : stepped .seen .shown ≡ shownIn (seenItems service (stepped .ran))
+  shows : whereRan (stepped .seen .refusal) (stepped .seen .shown) ≡ shownIn (seenItems service (stepped .ran))
+
+-- an event shows what it shows, refused or not
+event-shown : (service : Service) (event : Event)
+    → whereRan (refusalIn (shownOf (stepOf service event) .ans)) (shownOf (stepOf service event) ∷ []) ≡ shownOf (stepOf service event) ∷ []
+unfolding if_then_else_
+event-shown service event = simp (none-above-five service event)
 
 item-alike : (service : Service) (item : Item) → Alike service (stepItem service item)
-unfolding stepItem
-item-alike service (runs event) = record { leaves = refl; shows = refl }
-item-alike service (reports event buffer) =
-    by-length (Alike service) service event buffer (record { leaves = refl; shows = refl }) (record { leaves = refl; shows = refl })
+unfolding stepItem if_then_else_ reportOf
+item-alike service =
+    by-item (Alike service) service
+    (λ event. record { leaves = refl; shows = rw (event-shown service event) })
+    (λ buffer. record { leaves = refl; shows = refl })
+    (λ event buffer. record { leaves = refl; shows = rw (event-shown service event) })
+    fault-alike
+  where
+    fault-alike : (fault : Fault) → Alike service (refusedFrameStep service fault)
+    fault-alike Start = record { leaves = refl; shows = refl }
+    fault-alike Parity = record { leaves = refl; shows = refl }
+    fault-alike Stop = record { leaves = refl; shows = refl }
 
 -- ---- lists, by `item-alike` alone
 
@@ -105,7 +169,20 @@ events-as-items service (event ∷ more) =
     record {
       ran = ap (_∷_ (runs event)) (later .ran);
       leaves = later .leaves;
-      shows = ap (_∷_ (shownOf (stepOf service event))) (later .shows);
+      shows = rw (event-shown service event) (ap (_∷_ (shownOf (stepOf service event))) (later .shows));
+    }
+
+pub frames-as-keys : FramesAsKeys
+unfolding stepItem
+frames-as-keys service [] are = record { ran = refl; leaves = refl; seen = refl }
+frames-as-keys service (byte ∷ more) (small, are) =
+    let step = accepted-is-key service (frameOf byte) byte (one-frame-each .read byte small) in
+    let frames = map receivesByte more in
+    let later = frames-as-keys (next service (Key byte)) more are in
+    record {
+      ran = ap (λ (s : Stepped). s .ran ++ ranItems (s .service) frames) step ∙ ap (_∷_ (runs (Key byte))) (later .ran);
+      leaves = ap (λ (s : Stepped). afterItems (s .service) frames) step ∙ later .leaves;
+      seen = ap (λ (s : Stepped). s .seen ∷ seenItems (s .service) frames) step ∙ ap (_∷_ (answered (shownOf (stepOf service (Key byte))))) (later .seen);
     }
 
 pub nothing-between : NothingBetween

@@ -1,2 +1,4 @@
 pub mod ItemLaws
+pub mod TakenOut
+pub mod EventLaws
 pub mod Demand3

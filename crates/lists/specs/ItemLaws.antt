@@ -1,16 +1,22 @@
 -- What holds of items and of lists of them. ItemLaws.antt of proofs/ proves each sentence.
 -- Assumes nothing.
-use Prim.Native.Nat.{ℕ, _<_, _≤_}
+use Prim.Native.Nat.{ℕ, _+_, _<_, _≤_}
 use mathlib.Core.Path.{_≡_}
 use mathlib.Core.List.{List, [], _∷_, _++_, map}
 use lib.ListN.{length, drop}
+use Rattle.frame.specs.declared.Fault.{Fault}
+use Rattle.frame.specs.declared.Reading.the-variants.{Byte, Refused}
+use Rattle.frame.specs.Frame.{frameOf, readFrame, faultNumber}
+use Rattle.line.specs.State.{sentOf}
 use Rattle.state.specs.declared.Service.{Service}
+use Rattle.state.specs.Flags.{byte17Of, byte18Of, byte96Of, byte97Of}
 use Rattle.events.specs.declared.Event.{Event}
+use Rattle.events.specs.declared.Event.the-variants.{Key}
 use Rattle.events.specs.Step.{stepOf}
 use Rattle.events.specs.Run.{shownOf, next, run, after}
 use Rattle.report.specs.Text.{textOf}
 use Rattle.report.specs.Reported.{reportLength, eventReport, refusalIn}
-use Rattle.lists.specs.Items.{Item, runs, reports, Seen, Stepped, stepItem, afterItems, ranItems, seenItems, shownIn}
+use Rattle.lists.specs.Items.{Item, runs, reports, receives, Seen, Stepped, stepItem, afterItems, ranItems, seenItems, shownIn}
 
 -- One item: a report by the length of its buffer.
 
@@ -42,13 +48,48 @@ LongRuns =
     (service : Service) (event : Event) (buffer : List ℕ) → reportLength ≤ length buffer →
     stepItem service (reports event buffer) ≡ reportedStep service event buffer
 
+-- One item: a frame by what it carries.
+
+-- a byte: all that its K event is
+abbrev pub AcceptedIsKey : Type 0
+AcceptedIsKey =
+    (service : Service) (frame byte : ℕ) → readFrame frame ≡ Byte byte → stepItem service (receives frame) ≡ stepItem service (runs (Key byte))
+
+-- a fault: 11, 12 or 13, no event, the service as it was; the flag bytes and the count of bytes sent are shown as they stand
+abbrev pub refusedFrameStep : Service → Fault → Stepped
+refusedFrameStep service fault =
+    record {
+      service = service;
+      ran = [];
+      seen =
+          record {
+            shown =
+                record {
+                  ans = 0x80 + faultNumber fault;
+                  word = 0;
+                  byte17 = byte17Of service;
+                  byte18 = byte18Of service;
+                  byte96 = byte96Of service;
+                  byte97 = byte97Of service;
+                  sent = sentOf (service .line);
+                } ∷ [];
+            refusal = faultNumber fault;
+            buffer = [];
+          };
+    }
+
+abbrev pub RefusedRunsNothing : Type 0
+RefusedRunsNothing =
+    (service : Service) (frame : ℕ) (fault : Fault) → readFrame frame ≡ Refused fault →
+    stepItem service (receives frame) ≡ refusedFrameStep service fault
+
 -- Lists: only what ran counts.
 
 -- what ran of a list leaves the service that the list leaves
 abbrev pub ItemsLeave : Type 0
 ItemsLeave = (service : Service) (items : List Item) → afterItems service items ≡ afterItems service (ranItems service items)
 
--- and shows what its events show
+-- and shows what the list's events show
 abbrev pub ItemsShow : Type 0
 ItemsShow =
     (service : Service) (items : List Item) → shownIn (seenItems service items) ≡ shownIn (seenItems service (ranItems service items))
@@ -65,6 +106,22 @@ pub record AsEvents (service : Service) (events : List Event) : Type 0 where
 
 abbrev pub EventsAsItems : Type 0
 EventsAsItems = (service : Service) (events : List Event) → AsEvents service events
+
+-- the frames of bytes are the K events of these bytes
+abbrev pub receivesByte : ℕ → Item
+receivesByte byte = receives (frameOf byte)
+
+abbrev pub AreBytes : List ℕ → Type 0
+AreBytes [] = Unit {0}
+AreBytes (byte ∷ more) = (byte < 256) × AreBytes more
+
+pub record AsKeys (service : Service) (bytes : List ℕ) : Type 0 where
+  pub ran : ranItems service (map receivesByte bytes) ≡ map runs (map Key bytes)
+  pub leaves : afterItems service (map receivesByte bytes) ≡ afterItems service (map runs (map Key bytes))
+  pub seen : seenItems service (map receivesByte bytes) ≡ seenItems service (map runs (map Key bytes))
+
+abbrev pub FramesAsKeys : Type 0
+FramesAsKeys = (service : Service) (bytes : List ℕ) → AreBytes bytes → AsKeys service bytes
 
 -- an item put between two others is seen there and changes nothing else
 pub record Between (service : Service) (before later : List Item) (item : Item) (seen : Seen) : Type 0 where

@@ -2,20 +2,26 @@
 -- Assumes nothing.
 use Prim.Native.Nat.{ℕ}
 use mathlib.Core.List.{List, [], _∷_, _++_}
-use lib.Dec.{eqb}
+use lib.Dec.{ltb}
 use Rattle.bits.specs.Choice.{if_then_else_}
+use Rattle.frame.specs.declared.Reading.{Reading}
+use Rattle.frame.specs.declared.Reading.the-variants.{Byte, Refused}
+use Rattle.frame.specs.Frame.{readFrame}
 use Rattle.state.specs.declared.Service.{Service}
 use Rattle.events.specs.declared.Event.{Event}
+use Rattle.events.specs.declared.Event.the-variants.{Key}
 use Rattle.events.specs.Step.{stepOf}
+use Rattle.events.specs.Frames.{frameStepOf}
 use Rattle.events.specs.Run.{Shown, shownOf, next}
-use Rattle.report.specs.Reported.{reportedOf, bufferOf}
+use Rattle.report.specs.Reported.{refusalIn, reportedOf, bufferOf}
 
--- an event is run, or it is handed to the reporter with a buffer of any length
+-- an event is run, or it is handed to the reporter with a buffer of any length; a frame, any number, is received
 pub data Item : Type 0 where
   runs : Event → Item
   reports : Event → List ℕ → Item
+  receives : ℕ → Item
 
--- what a caller sees of an item: what its event shows, if one ran; the number returned, 0 for none; the buffer that it gets back
+-- what a caller sees of an item: what its answer shows, if it gets one; the number of its refusal, 0 for none; the buffer that it gets back
 pub record Seen : Type 0 where
   pub shown : List Shown
   pub refusal : ℕ
@@ -27,30 +33,38 @@ pub record Stepped : Type 0 where
   pub ran : List Item
   pub seen : Seen
 
--- refusal 9 runs no event
-abbrev pub unlessNine : {A : Type 0} → ℕ → A → List A
-unlessNine refusal a = if eqb refusal 9 then [] else a ∷ []
+-- a call that answers and is lent no buffer
+abbrev pub answered : Shown → Seen
+answered shown = record { shown = shown ∷ []; refusal = refusalIn (shown .ans); buffer = [] }
+
+-- 2 to 5 refuse an event that ran; any other refusal says that none did
+abbrev pub whereRan : {A : Type 0} → ℕ → List A → List A
+whereRan refusal of-event = if ltb 5 refusal then [] else of-event
+
+-- what a frame feeds
+abbrev pub fedBy : Reading → List Item
+fedBy (Byte byte) = runs (Key byte) ∷ []
+fedBy (Refused fault) = []
 
 -- each item by the definition of the call that it is
 unfoldable pub stepItem : Service → Item → Stepped
 stepItem service (runs event) =
-    record {
-      service = next service event;
-      ran = runs event ∷ [];
-      seen = record { shown = shownOf (stepOf service event) ∷ []; refusal = 0; buffer = [] };
-    }
+    record { service = next service event; ran = runs event ∷ []; seen = answered (shownOf (stepOf service event)) }
 stepItem service (reports event buffer) =
     let told = reportedOf service event buffer in
     record {
       service = told .service;
-      ran = unlessNine (told .refusal) (runs event);
+      ran = whereRan (told .refusal) (runs event ∷ []);
       seen =
           record {
-            shown = unlessNine (told .refusal) (shownOf (stepOf service event));
+            shown = whereRan (told .refusal) (shownOf (stepOf service event) ∷ []);
             refusal = told .refusal;
             buffer = bufferOf service event buffer;
           };
     }
+stepItem service (receives frame) =
+    let outcome = frameStepOf service frame in
+    record { service = outcome .service; ran = fedBy (readFrame frame); seen = answered (shownOf outcome) }
 
 -- Lists: each item takes the service as the one before left it.
 
@@ -69,7 +83,7 @@ abbrev pub seenItems : Service → List Item → List Seen
 seenItems service [] = []
 seenItems service (item ∷ more) = stepItem service item .seen ∷ seenItems (nextItem service item) more
 
--- what the events of a list show, one after the other
+-- what the events that ran show, one after the other
 abbrev pub shownIn : List Seen → List Shown
 shownIn [] = []
-shownIn (seen ∷ more) = seen .shown ++ shownIn more
+shownIn (seen ∷ more) = whereRan (seen .refusal) (seen .shown) ++ shownIn more

@@ -1,3 +1,5 @@
 pub mod Items
 pub mod ItemLaws
+pub mod TakenOut
+pub mod EventLaws
 pub mod Demand3

@@ -3,6 +3,7 @@
 use mathlib.Core.Path.{_≡_, refl, sym}
 use mathlib.Core.Bool.{Bool, true, false, not, _||_, true≢false}
 use Rattle.bits.specs.Choice.{if_then_else_}
+use Rattle.bits.proofs.Tests.{neither}
 use Rattle.word.specs.Word.{isCode}
 use Rattle.port.specs.declared.Code.{Code}
 use Rattle.port.specs.declared.Port.{Port}
@@ -15,15 +16,6 @@ use Rattle.port_modifiers.specs.Named.{isKey, isNamed}
 pub not-holds : (test : Bool) → not test ≡ true → test ≡ false
 not-holds true h = absurd (true≢false (sym h))
 not-holds false h = refl
-
--- a make and a break that a code is not
-record Neither (a b : Bool) : Type 0 where
-  make : a ≡ false
-  break : b ≡ false
-
-neither : (a b : Bool) → (a || b) ≡ false → Neither a b
-neither true b h = absurd (true≢false h)
-neither false b h = record { make = refl; break = h }
 
 record None (a b c d e f g h i : Bool) : Type 0 where
   left : a ≡ false
@@ -55,6 +47,7 @@ unnamed port shared code is =
     let scan = code .scan in
     let not-named =
     none (isKey 0x2A scan) (isKey 0x36 scan) (isKey 0x1D scan) (isKey 0x38 scan) (isKey 0x3A scan) (isKey 0x45 scan) (isKey 0x46 scan) (isKey 0x54 scan) (isCode 0xD2 scan) is in
+    -- of each key neither the make nor the break
     let left = neither (isCode 0x2A scan) (isCode 0xAA scan) (not-named .left) in
     let right = neither (isCode 0x36 scan) (isCode 0xB6 scan) (not-named .right) in
     let ctrl = neither (isCode 0x1D scan) (isCode 0x9D scan) (not-named .ctrl) in
@@ -63,4 +56,4 @@ unnamed port shared code is =
     let num = neither (isCode 0x45 scan) (isCode 0xC5 scan) (not-named .num) in
     let scroll = neither (isCode 0x46 scan) (isCode 0xC6 scan) (not-named .scroll) in
     let sysreq = neither (isCode 0x54 scan) (isCode 0xD4 scan) (not-named .sysreq) in
-    simp (not-named .insert, left .make, left .break, right .make, right .break, ctrl .make, ctrl .break, alt .make, alt .break, caps .make, caps .break, num .make, num .break, scroll .make, scroll .break, sysreq .make, sysreq .break)
+    simp (not-named .insert, left .first, left .second, right .first, right .second, ctrl .first, ctrl .second, alt .first, alt .second, caps .first, caps .second, num .first, num .second, scroll .first, scroll .second, sysreq .first, sysreq .second)

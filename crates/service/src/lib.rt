@@ -1,12 +1,16 @@
-// The service: newly made, after one event of any kind, and resynchronised. Every value of the types has a meaning, so no call asks anything.
+// The service: newly made, after one event of any kind or one frame, and resynchronised. Every value of the types has a meaning, so no call
+// asks anything.
 ghost use mathlib.Core.Path.{_≡_};
 ghost use Rattle.state.specs.State.{quietOf, newService, makeOf};
 ghost use Rattle.events.specs.Step.{emptyOf, stepOf};
+ghost use Rattle.events.specs.Frames.{frameStepOf};
 ghost use Rattle.events.specs.Run.{after};
 ghost use Rattle.events.specs.Resynchronised.{resynchronisation};
 use answers::Answer;
+use answers::Refusal;
 use events::Event;
 use events::Outcome;
+use frame::Reading;
 use line::Line;
 use port::Locks;
 use port::Shared;
@@ -68,6 +72,19 @@ pub fn step(service: Service, event: Event) -> Outcome
         Event::TimeOut => events_commands::time_out(service),
         Event::Empty => empty(service),
         Event::Restart => events_commands::restart(service),
+    }
+}
+
+// One frame: the event of the byte that it carries, or refused and nothing fed.
+pub fn frame(service: Service, frame: u16) -> Outcome
+    ensures { λ r. ⌜ r ≡ frameStepOf service frame ⌝ }
+{
+    match frame::read(frame) {
+        Reading::Byte(byte) => step(service, Event::Key(byte)),
+        Reading::Refused(fault) => {
+            let answer = Answer::Refused(Refusal::Frame(fault));
+            events_outcomes::answered(service, answer)
+        }
     }
 }
 

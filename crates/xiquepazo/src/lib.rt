@@ -1,7 +1,8 @@
 // The calls for C and Rust: thin calls over the calls by value, on an image that the caller lends.
 ghost use mathlib.Core.Path.{_≡_};
+ghost use Rattle.frame.specs.Frame.{frameOf};
 ghost use Rattle.image_calls.specs.Reads.{readTo};
-ghost use Rattle.image_calls.specs.Exports.{eventTo, makeTo, reportTo, writtenTo, flagsTo, resynchronisedTo};
+ghost use Rattle.image_calls.specs.Exports.{eventTo, frameTo, makeTo, reportTo, writtenTo, flagsTo, resynchronisedTo};
 use image::FlagBytes;
 use image::Image;
 use image_calls::Reading;
@@ -69,4 +70,23 @@ pub extern "C" fn xiquepazo_read(pack: &[u8], start: usize) -> Reading
     ensures { λ r. ⌜ r ≡ readTo (now (pack .entry)) start ⌝ }
 {
     image_reading::read_at(pack, start)
+}
+
+// A frame from the keyboard; or refusal 11, 12 or 13, and nothing is fed.
+#[no_mangle]
+pub extern "C" fn xiquepazo_frame(image: &mut Image, frame: u16) -> Shown
+    ensures { λ r. ⌜ (now (image .exit) ≡ frameTo (now (image .entry)) frame .image)
+        × (r ≡ frameTo (now (image .entry)) frame .shown) ⌝ }
+{
+    let changed = over_event::frame(*image, frame);
+    *image = changed.image;
+    changed.shown
+}
+
+// The frame of a byte.
+#[no_mangle]
+pub extern "C" fn xiquepazo_frame_of(byte: u8) -> u16
+    ensures { λ r. ⌜ r ≡ frameOf byte ⌝ }
+{
+    frame::write(byte)
 }

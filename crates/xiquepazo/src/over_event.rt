@@ -1,8 +1,14 @@
-// The calls that go over an event: a report, and the flag bytes. Each runs the event that C runs, on a copy, so that its code stands in the
-// library once.
+// The calls that go over an event: a report, a frame, and the flag bytes. Each runs the event that C runs, on a copy, so that its code stands
+// in the library once.
 ghost use mathlib.Core.Path.{_≡_};
+ghost use Rattle.frame.specs.Frame.{faultNumber};
 ghost use Rattle.report.specs.Report.{reportFrom};
-ghost use Rattle.image_calls.specs.Exports.{seen, eventTo, reportTo, writtenTo, flagsTo};
+ghost use Rattle.image_calls.specs.Exports.{seen, refusedIn, eventTo, frameTo, reportTo, writtenTo, flagsTo};
+use answers::Answer;
+use answers::Refusal;
+use events::Event;
+use frame::Fault;
+use frame::Reading;
 use image::FlagBytes;
 use image::Image;
 use image_calls::Changed;
@@ -53,9 +59,9 @@ pub fn report(image: Image, tagged: Tagged, buffer: &mut [u8]) -> Refused
     }
 }
 
-// An unknown tag shows the flag bytes as they stand.
-pub fn flag_bytes(image: Image) -> FlagBytes
-    ensures { λ r. ⌜ r ≡ flagsTo image ⌝ }
+// What an unknown tag shows: the flag bytes and the count of bytes sent as they stand.
+fn standing(image: Image) -> Shown
+    ensures { λ r. ⌜ r ≡ refusedIn image 6 .shown ⌝ }
 {
     let unknown = Tagged {
         tag: 0,
@@ -64,11 +70,46 @@ pub fn flag_bytes(image: Image) -> FlagBytes
         c: 0,
     };
     let changed = event_on_copy(image, unknown);
-    let shown = changed.shown;
+    changed.shown
+}
+
+pub fn flag_bytes(image: Image) -> FlagBytes
+    ensures { λ r. ⌜ r ≡ flagsTo image ⌝ }
+{
+    let shown = standing(image);
     FlagBytes {
         byte17: shown.byte17,
         byte18: shown.byte18,
         byte96: shown.byte96,
         byte97: shown.byte97,
+    }
+}
+
+fn refused_frame(image: Image, fault: Fault) -> Changed
+    ensures { λ r. ⌜ r ≡ refusedIn image (faultNumber fault) ⌝ }
+{
+    let ans = answers::number(Answer::Refused(Refusal::Frame(fault)));
+    let shown = standing(image);
+    Changed {
+        image,
+        shown: Shown {
+            word: 0,
+            ans,
+            sent: shown.sent,
+            byte17: shown.byte17,
+            byte18: shown.byte18,
+            byte96: shown.byte96,
+            byte97: shown.byte97,
+        },
+    }
+}
+
+// The event of the byte that a frame carries, or refused and nothing fed.
+pub fn frame(image: Image, frame: u16) -> Changed
+    ensures { λ r. ⌜ r ≡ frameTo image frame ⌝ }
+{
+    match frame::read(frame) {
+        Reading::Byte(byte) => event_on_copy(image, image_reading::tagged_of(Event::Key(byte))),
+        Reading::Refused(fault) => refused_frame(image, fault),
     }
 }

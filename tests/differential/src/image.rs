@@ -1,6 +1,6 @@
 //! The exported functions, declared once, and safe calls over them.
 
-use reference::{Event, Outcome};
+use reference::{Event, Input, Outcome, REPORT_LENGTH};
 
 /// Bytes of a service as the library keeps it.
 pub const IMAGE_LENGTH: usize = 64;
@@ -103,6 +103,8 @@ extern "C" {
     fn xiquepazo_resynchronise(image: &mut Image) -> Shown;
     fn xiquepazo_flags(image: &Image) -> FlagBytes;
     fn xiquepazo_read(pack: *const u8, length: usize, start: usize) -> Reading;
+    fn xiquepazo_frame(image: &mut Image, frame: u16) -> Shown;
+    fn xiquepazo_frame_of(byte: u8) -> u16;
 }
 
 // Each call is sound for every argument: the library has no `requires`, every image is a service,
@@ -142,6 +144,26 @@ impl Image {
         unsafe { xiquepazo_report(self, event.into(), start, length) }
     }
 
+    /// Reads a frame, and runs the event of the byte in it.
+    pub fn frame(&mut self, frame: u16) -> Outcome {
+        unsafe { xiquepazo_frame(self, frame) }.into()
+    }
+
+    pub fn input(&mut self, input: &Input) -> Outcome {
+        match input {
+            Input::Event(event) => self.event(event),
+            Input::Frame(frame) => self.frame(*frame),
+        }
+    }
+
+    /// Runs the event that an input feeds, if it feeds one, and gives what is reported of it.
+    pub fn report_of(&mut self, input: &Input) -> Option<Reported> {
+        let event = input.fed()?;
+        let mut text = [0; REPORT_LENGTH];
+        let refusal = self.report(&event, &mut text);
+        Some(Reported { refusal, text })
+    }
+
     /// What the all-up run, E and R leave; gives what this R shows.
     pub fn resynchronise(&mut self) -> Outcome {
         unsafe { xiquepazo_resynchronise(self) }.into()
@@ -159,6 +181,13 @@ impl Image {
     }
 }
 
+/// The text of a report, and the number that the call for it returned.
+#[derive(Clone, Copy, Debug, PartialEq, Eq)]
+pub struct Reported {
+    pub refusal: u8,
+    pub text: [u8; REPORT_LENGTH],
+}
+
 /// What stands at a start in a pack: the next start, the event, tag 0 for none, and the refusal.
 #[repr(C)]
 #[derive(Clone, Copy, Debug, PartialEq, Eq)]
@@ -171,6 +200,11 @@ pub struct Reading {
 /// Reads one event of a pack.
 pub fn read(pack: &[u8], start: usize) -> Reading {
     unsafe { xiquepazo_read(pack.as_ptr(), pack.len(), start) }
+}
+
+/// The frame of a byte that is to be sent.
+pub fn frame_of(byte: u8) -> u16 {
+    unsafe { xiquepazo_frame_of(byte) }
 }
 
 impl From<&Event> for Tagged {

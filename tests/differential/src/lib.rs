@@ -6,5 +6,7 @@
 //! independent reference, and look at every byte that was lent.
 
 mod image;
+mod pair;
 
-pub use image::{flag, place, read, Image, Reading, Tagged, IMAGE_LENGTH};
+pub use image::{flag, frame_of, place, read, Image, Reading, Reported, Tagged, IMAGE_LENGTH};
+pub use pair::{report_due, Pair};

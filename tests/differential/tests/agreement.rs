@@ -1,59 +1,63 @@
-//! Every event through the library shows what the reference shows: answer, word, flag bytes, bytes
-//! sent, refusal and the 44 bytes of its report. Run alone or with its report, it leaves the same
-//! image, and the first four bytes of that are the flag bytes.
+//! Every input through the library shows what the reference shows: answer, word, flag bytes, bytes
+//! sent, refusal and the 44 bytes of its report. Run alone or with its report, an event leaves the same
+//! image, whether it came by itself or as a frame; a refused frame leaves the image it found. The first
+//! four bytes of the image are the flag bytes.
 //!
-//! The lists are random, of every flavour and from every setting of the locks, and then those of
-//! the reference's generator, which try each rule. Where the two sides differ, the list is cut down
-//! to events that are all needed to see it.
+//! The lists are random, of every flavour and from every setting of the locks, with frames among their
+//! events, and then those of the reference's generator, which try each rule. Where the two sides differ,
+//! the list is cut down to inputs that are all needed to see it.
 
-use differential::Image;
-use reference::generator::{packs, random_events, Flavour, Random, FLAVOURS};
+use differential::{report_due, Image, Pair, Reported};
+use reference::generator::{packs, random_inputs, Flavour, Random, FLAVOURS};
 use reference::vectors::to_hex;
-use reference::{read_event, report, Event, Outcome, Service, REPORT_LENGTH};
+use reference::{read_event, Input, Outcome, Service};
 use std::{fmt, thread};
 
 /// Random lists of each flavour from each setting of the locks: how many, and their lengths.
 const LISTS: [(usize, usize, usize); 3] = [(400, 1, 60), (40, 100, 600), (1, 30_000, 30_000)];
-const LEAST_EVENTS: usize = 2_000_000;
+const LEAST_INPUTS: usize = 2_000_000;
 
-/// What is seen of one event.
+/// What is seen of one input.
 #[derive(PartialEq, Eq)]
 struct Seen {
     outcome: Outcome,
     flags: [u8; 4],
-    refusal: u8,
-    report: [u8; REPORT_LENGTH],
+    reported: Option<Reported>,
 }
 
 impl fmt::Display for Seen {
     fn fmt(&self, formatter: &mut fmt::Formatter) -> fmt::Result {
-        let report = String::from_utf8_lossy(&self.report);
         write!(
             formatter,
-            "{:X?}, then flags {:X?}; refusal {}; {report:?}",
-            self.outcome, self.flags, self.refusal
-        )
+            "{:X?}, then flags {:X?}; ",
+            self.outcome, self.flags
+        )?;
+        match &self.reported {
+            None => write!(formatter, "no report"),
+            Some(Reported { refusal, text }) => {
+                let text = String::from_utf8_lossy(text);
+                write!(formatter, "refusal {refusal}; {text:?}")
+            }
+        }
     }
 }
 
-fn seen_of_reference(service: &mut Service, event: &Event) -> Seen {
-    let outcome = service.event(event);
+fn seen_of_reference(service: &mut Service, input: &Input) -> Seen {
+    let outcome = service.input(input);
     Seen {
         outcome,
         flags: service.flag_bytes(),
-        refusal: outcome.ans.saturating_sub(0x80),
-        report: report(event, &outcome),
+        reported: report_due(input, &outcome),
     }
 }
 
-/// Runs the event by both calls that can, from the same image, and holds them to each other.
-fn seen_of_library(image: &mut Image, event: &Event) -> Result<Seen, String> {
-    let mut reported = image.clone();
-    let outcome = image.event(event);
-    let mut report = [0; REPORT_LENGTH];
-    let refusal = reported.report(event, &mut report);
-    if reported != *image {
-        return Err("`report` leaves another image than `event`".to_string());
+/// Runs the input by both calls that can, from the same image, and holds them to each other.
+fn seen_of_library(image: &mut Image, input: &Input) -> Result<Seen, String> {
+    let mut with_report = image.clone();
+    let outcome = image.input(input);
+    let reported = with_report.report_of(input);
+    if with_report != *image {
+        return Err("leaves another image than `report` of what it feeds".to_string());
     }
     if image.first_bytes() != image.flag_bytes() {
         return Err("the image does not begin with its flag bytes".to_string());
@@ -61,18 +65,19 @@ fn seen_of_library(image: &mut Image, event: &Event) -> Result<Seen, String> {
     Ok(Seen {
         outcome,
         flags: image.flag_bytes(),
-        refusal,
-        report,
+        reported,
     })
 }
 
-/// The place of the first event on which the two sides differ, and how.
-fn difference(locks: u8, events: &[Event]) -> Option<(usize, String)> {
-    let mut service = Service::new(locks).unwrap();
-    let mut image = Image::new(locks).unwrap();
-    for (place, event) in events.iter().enumerate() {
-        let reference = seen_of_reference(&mut service, event);
-        match seen_of_library(&mut image, event) {
+/// The place of the first input on which the two sides differ, and how.
+fn difference(locks: u8, inputs: &[Input]) -> Option<(usize, String)> {
+    let Pair {
+        mut image,
+        mut service,
+    } = Pair::new(locks);
+    for (place, input) in inputs.iter().enumerate() {
+        let reference = seen_of_reference(&mut service, input);
+        match seen_of_library(&mut image, input) {
             Ok(library) if library == reference => {}
             Ok(library) => {
                 let how = format!("library:   {library}\nreference: {reference}");
@@ -84,37 +89,38 @@ fn difference(locks: u8, events: &[Event]) -> Option<(usize, String)> {
     None
 }
 
-/// Leaves out event after event, as long as the rest still differs.
-fn cut_down(locks: u8, events: &[Event]) -> Vec<Event> {
-    let mut events = events.to_vec();
+/// Leaves out input after input, as long as the rest still differs.
+fn cut_down(locks: u8, inputs: &[Input]) -> Vec<Input> {
+    let mut inputs = inputs.to_vec();
     let mut place = 0;
-    while place < events.len() {
-        let mut fewer = events.clone();
+    while place < inputs.len() {
+        let mut fewer = inputs.clone();
         fewer.remove(place);
         match difference(locks, &fewer) {
-            Some((last, _)) => events = fewer[..=last].to_vec(),
+            Some((last, _)) => inputs = fewer[..=last].to_vec(),
             None => place += 1,
         }
     }
-    events
+    inputs
 }
 
-fn assert_agrees(locks: u8, events: &[Event]) {
-    let Some((last, _)) = difference(locks, events) else {
+fn assert_agrees(locks: u8, inputs: &[Input]) {
+    let Some((last, _)) = difference(locks, inputs) else {
         return;
     };
-    let events = cut_down(locks, &events[..=last]);
-    let how = difference(locks, &events).map(|(_, how)| how);
+    let inputs = cut_down(locks, &inputs[..=last]);
+    let how = difference(locks, &inputs).map(|(_, how)| how);
     let mut pack = Vec::new();
-    events.iter().for_each(|event| event.write(&mut pack));
+    let fed = inputs.iter().filter_map(Input::fed);
+    fed.for_each(|event| event.write(&mut pack));
     let pack = to_hex(&pack);
     panic!(
-        "from locks {locks}, the pack {pack} ends in a difference\n{}",
+        "from locks {locks}, the list {inputs:X?}, which feeds the pack {pack}, ends in a difference\n{}",
         how.unwrap_or_default()
     );
 }
 
-/// Compares random lists of one flavour, and counts their events.
+/// Compares random lists of one flavour, and counts their inputs.
 fn compare_random_lists(flavour: Flavour) -> usize {
     let mut random = Random::new(0x0D1F + flavour as u64);
     let mut count = 0;
@@ -122,9 +128,9 @@ fn compare_random_lists(flavour: Flavour) -> usize {
         for (lists, shortest, longest) in LISTS {
             for _ in 0..lists {
                 let length = random.between(shortest, longest);
-                let events = random_events(&mut random, flavour, length);
-                assert_agrees(locks, &events);
-                count += events.len();
+                let inputs = random_inputs(&mut random, flavour, length);
+                assert_agrees(locks, &inputs);
+                count += inputs.len();
             }
         }
     }
@@ -141,28 +147,28 @@ fn random_lists_agree() {
             .map(|thread| thread.join().unwrap())
             .sum()
     });
-    println!("{count} events of random lists agree");
-    assert!(count >= LEAST_EVENTS);
+    println!("{count} events and frames of random lists agree");
+    assert!(count >= LEAST_INPUTS);
 }
 
 /// The events of a pack, up to its end or refusal.
-fn events_of(pack: &[u8]) -> Vec<Event> {
-    let mut events = Vec::new();
+fn inputs_of(pack: &[u8]) -> Vec<Input> {
+    let mut inputs = Vec::new();
     let mut start = 0;
     while let Ok(Some((event, next))) = read_event(pack, start) {
-        events.push(event);
+        inputs.push(Input::Event(event));
         start = next;
     }
-    events
+    inputs
 }
 
 #[test]
 fn generated_packs_agree() {
     let mut count = 0;
     for pack in packs() {
-        let events = events_of(&pack.bytes);
-        assert_agrees(0, &events);
-        count += events.len();
+        let inputs = inputs_of(&pack.bytes);
+        assert_agrees(0, &inputs);
+        count += inputs.len();
     }
     println!("{count} events of generated packs agree");
 }

@@ -1,12 +1,12 @@
 //! Any 64 bytes are a service: no image makes a call fail, or answer otherwise a second time. What a
 //! call leaves is in the one form that the library writes, with every number in its range, and shows
 //! the same as what was lent; its first four bytes are the flag bytes that the call showed. Bits that
-//! the header says are not read change nothing.
+//! the header says are not read change nothing. A refused call or frame leaves every bit as it was lent.
 
 use differential::place::*;
-use differential::{flag, Image, IMAGE_LENGTH};
-use reference::generator::{random_events, Random, FLAVOURS};
-use reference::{report, Event, REPORT_LENGTH};
+use differential::{flag, report_due, Image, IMAGE_LENGTH};
+use reference::generator::{in_turn, random_events, random_inputs, Random, FLAVOURS};
+use reference::Input;
 
 const IMAGES: usize = 200_000;
 const EVENTS: usize = 10;
@@ -119,7 +119,7 @@ fn with_other_unread_bits(image: &Image, random: &mut Random) -> Image {
     other
 }
 
-fn check_event(image: &mut Image, event: &Event, random: &mut Random) {
+fn check_input(image: &mut Image, input: &Input, random: &mut Random) {
     let before = image.clone();
     let (mut again, mut formed, mut reported) =
         (before.clone(), in_form(before.clone()), before.clone());
@@ -132,13 +132,13 @@ fn check_event(image: &mut Image, event: &Event, random: &mut Random) {
     assert_eq!(formed.flag_bytes(), formed.first_bytes());
     assert_eq!(other.flag_bytes(), formed.first_bytes());
 
-    let outcome = image.event(event);
-    assert_eq!(again.event(event), outcome);
+    let outcome = image.input(input);
+    assert_eq!(again.input(input), outcome);
     assert_eq!(again, *image);
     assert_eq!(image.flag_bytes(), outcome.flags);
-    assert_eq!(formed.event(event), outcome);
+    assert_eq!(formed.input(input), outcome);
     assert_eq!(formed.first_bytes(), outcome.flags);
-    assert_eq!(other.event(event), outcome);
+    assert_eq!(other.input(input), outcome);
     if outcome.ans < 0x80 {
         assert_eq!(*image, meant(image));
         assert_eq!(image.first_bytes(), outcome.flags);
@@ -149,14 +149,9 @@ fn check_event(image: &mut Image, event: &Event, random: &mut Random) {
         assert_eq!(lent, other);
     }
 
-    let mut text = [0; REPORT_LENGTH];
-    assert_eq!(
-        reported.report(event, &mut text),
-        outcome.ans.saturating_sub(0x80)
-    );
+    assert_eq!(reported.report_of(input), report_due(input, &outcome));
     assert_eq!(reported, *image);
     assert!(outcome.sent <= 6);
-    assert_eq!(text, report(event, &outcome));
 }
 
 #[test]
@@ -165,9 +160,9 @@ fn any_bytes_are_a_service() {
     for number in 0..IMAGES {
         let mut image = any_image(&mut random);
         let lent = image.clone();
-        let flavour = FLAVOURS[number % FLAVOURS.len()];
-        for event in random_events(&mut random, flavour, EVENTS) {
-            check_event(&mut image, &event, &mut random);
+        let (flavour, _) = in_turn(number);
+        for input in random_inputs(&mut random, flavour, EVENTS) {
+            check_input(&mut image, &input, &mut random);
         }
         let (mut settled, mut made) = (lent.clone(), lent);
         let locks = settled.flag_bytes()[0] >> 4;

@@ -2,9 +2,10 @@
 //! the report of a call refused by 2 to 5, which is told like any other event. A call that is run
 //! changes the image and the first 44 bytes of the buffer, and nothing before, between or behind.
 
-use differential::{Image, Tagged};
-use reference::generator::{random_events, Random, FLAVOURS};
-use reference::{report, Event, Service, REPORT_LENGTH};
+use differential::{Image, Pair, Tagged};
+use reference::frame::{PARITY_BIT, STOP_BIT};
+use reference::generator::{in_turn, random_events, random_inputs, Random, FLAVOURS};
+use reference::{report, write_frame, Event, Outcome, REPORT_LENGTH};
 
 /// Services in use that each refusal is tried on.
 const SERVICES: usize = 256;
@@ -14,29 +15,13 @@ const TAGS: [u8; 6] = *b"KCPTER";
 /// The functions of int 16h that are not refused by 2.
 const FUNCTIONS: [u8; 8] = [0x00, 0x10, 0x01, 0x11, 0x02, 0x12, 0x03, 0x05];
 
-/// One service, as the library and as the reference has it.
-#[derive(Clone)]
-struct Pair {
-    image: Image,
-    service: Service,
-}
-
-impl Pair {
-    fn event(&mut self, event: &Event) {
-        assert_eq!(self.image.event(event), self.service.event(event));
-    }
-}
-
 /// Services after random lists of every flavour, from every setting of the locks.
 fn services_in_use() -> Vec<Pair> {
     let mut random = Random::new(9);
     let in_use = |number: usize| {
-        let locks = (number / FLAVOURS.len() % 16) as u8;
-        let mut pair = Pair {
-            image: Image::new(locks).unwrap(),
-            service: Service::new(locks).unwrap(),
-        };
-        let (flavour, length) = (FLAVOURS[number % FLAVOURS.len()], random.below(150));
+        let (flavour, locks) = in_turn(number);
+        let mut pair = Pair::new(locks);
+        let length = random.below(150);
         for event in random_events(&mut random, flavour, length) {
             pair.event(&event);
         }
@@ -84,6 +69,24 @@ fn assert_call_refused(pair: &Pair, (function, a, b): (u8, u8, u8), refusal: u8)
     assert_eq!(image, pair.image);
     assert_reported(pair, &event, REPORT_LENGTH, refusal);
     assert_reported(pair, &event, REPORT_LENGTH + 13, refusal);
+}
+
+/// What a refusal that runs no event shows: flag bytes and `sent` are those of a status call.
+fn standing(pair: &Pair, refusal: u8) -> Outcome {
+    Outcome {
+        ans: 0x80 + refusal,
+        word: 0,
+        ..pair.image.clone().call(0x02, 0, 0)
+    }
+}
+
+fn assert_frames_refused(pair: &Pair, frames: impl Iterator<Item = u16>, refusal: u8) {
+    let expected = standing(pair, refusal);
+    let mut image = pair.image.clone();
+    for frame in frames {
+        assert_eq!(image.frame(frame), expected, "{frame:011b}");
+        assert_eq!(image, pair.image, "{frame:011b}");
+    }
 }
 
 #[test]
@@ -139,14 +142,12 @@ fn refusal_5_keeps_every_byte() {
 #[test]
 fn refusal_6_keeps_every_byte() {
     for pair in services_in_use() {
-        let standing = pair.image.clone().call(0x02, 0, 0);
+        let expected = standing(&pair, 6);
         for tag in (0..=255).filter(|tag| !TAGS.contains(tag)) {
             let operands = [tag, 0x00, 0xFF];
             let event = Tagged { tag, operands };
             let mut image = pair.image.clone();
-            let shown = image.event(event);
-            assert_eq!((shown.ans, shown.word), (0x86, 0));
-            assert_eq!((shown.flags, shown.sent), (standing.flags, standing.sent));
+            assert_eq!(image.event(event), expected);
             assert_eq!(image, pair.image);
             // It comes before 9.
             for length in [0, REPORT_LENGTH - 1, REPORT_LENGTH, 100] {
@@ -172,6 +173,35 @@ fn refusal_9_keeps_every_byte() {
                 assert_unreported(&pair, Tagged { tag, operands }, length, 9);
             }
         }
+    }
+}
+
+#[test]
+fn refusal_11_keeps_every_byte() {
+    for pair in services_in_use() {
+        let odd = (1..2048).step_by(2);
+        let bits_above = (1..32).map(|bits| bits << 11);
+        let sound_below =
+            bits_above.flat_map(|bits| (0..=255).map(move |byte| bits | write_frame(byte)));
+        assert_frames_refused(&pair, odd.chain([2048]).chain(sound_below), 11);
+    }
+}
+
+#[test]
+fn refusal_12_keeps_every_byte() {
+    for pair in services_in_use() {
+        let frames = (0..=255).map(|byte| write_frame(byte) ^ 1 << PARITY_BIT);
+        assert_frames_refused(&pair, frames.clone(), 12);
+        // It comes before 13.
+        assert_frames_refused(&pair, frames.map(|frame| frame ^ 1 << STOP_BIT), 12);
+    }
+}
+
+#[test]
+fn refusal_13_keeps_every_byte() {
+    for pair in services_in_use() {
+        let frames = (0..=255).map(|byte| write_frame(byte) ^ 1 << STOP_BIT);
+        assert_frames_refused(&pair, frames, 13);
     }
 }
 
@@ -230,9 +260,9 @@ fn neighbours_of_the_image_are_kept() {
             after: margin,
         };
         let flavour = random.pick(&FLAVOURS);
-        for event in random_events(&mut random, flavour, 200) {
-            amid.image.event(&event);
-            amid.image.report(&event, &mut [0; REPORT_LENGTH]);
+        for input in random_inputs(&mut random, flavour, 200) {
+            amid.image.input(&input);
+            amid.image.report_of(&input);
             amid.image.make(random.byte());
         }
         assert_eq!((amid.before, amid.after), (margin, margin));

@@ -3,40 +3,40 @@
 //! and on a random further list both show the same, event by event. The one call for it leaves the same image.
 //!
 //! Calls that are turned away by refusal 9 stand before any event: of the first lists, of the all-up
-//! run, before and after its E and R, and of the further lists of either service.
+//! run, before and after its E and R, and of the further lists of either service. So do refused frames,
+//! and keyboard bytes come as frames or by themselves, those of the run too.
 
-use differential::Image;
-use reference::generator::{random_events, Random, ALL_UP_RUN, FLAVOURS};
-use reference::{Event, Outcome, REPORT_LENGTH};
+use differential::{Image, Reported};
+use reference::generator::{all_up_inputs, in_turn, random_inputs, Random};
+use reference::{Event, Input, Outcome, REPORT_LENGTH};
 
 const FIRST_LISTS: usize = 32_000;
 const LONGEST_FIRST: usize = 200;
 const FURTHER_EVENTS: usize = 60;
 
-/// Now and then asks for a report in too few bytes.
-fn turned_away(image: &mut Image, random: &mut Random, event: &Event) {
+/// Now and then asks for a report in too few bytes, of what comes next.
+fn turned_away(image: &mut Image, random: &mut Random, next: &Input) {
     if random.below(8) == 0 {
+        let event = next.fed().unwrap_or(Event::Poll);
         let mut buffer = vec![0x5A; random.below(REPORT_LENGTH)];
-        assert_eq!(image.report(event, &mut buffer), 9);
+        assert_eq!(image.report(&event, &mut buffer), 9);
         assert!(buffer.iter().all(|&byte| byte == 0x5A));
     }
 }
 
-/// Runs a list, with reports turned away before its events and after them; gives what the last shows.
-fn run(image: &mut Image, random: &mut Random, events: &[Event]) -> Option<Outcome> {
+/// Runs a list, with reports turned away before its inputs and after them; gives what its last event
+/// shows.
+fn run(image: &mut Image, random: &mut Random, inputs: &[Input]) -> Option<Outcome> {
     let mut last = None;
-    for event in events {
-        turned_away(image, random, event);
-        last = Some(image.event(event));
+    for input in inputs {
+        turned_away(image, random, input);
+        let outcome = image.input(input);
+        if input.fed().is_some() {
+            last = Some(outcome);
+        }
     }
-    turned_away(image, random, &Event::Poll);
+    turned_away(image, random, &Input::Event(Event::Poll));
     last
-}
-
-/// The all-up run, E and R.
-fn resynchronising() -> Vec<Event> {
-    let run = ALL_UP_RUN.into_iter().map(Event::Key);
-    run.chain([Event::Empty, Event::Restart]).collect()
 }
 
 /// A service newly made with the locks that stand in this one.
@@ -44,19 +44,18 @@ fn new_like(used: &Image) -> Image {
     Image::new(used.flag_bytes()[0] >> 4).unwrap()
 }
 
-/// What an event shows, and its report.
-fn seen(image: &mut Image, event: &Event) -> (Outcome, u8, [u8; REPORT_LENGTH]) {
-    let mut report = [0; REPORT_LENGTH];
-    let refusal = image.clone().report(event, &mut report);
-    (image.event(event), refusal, report)
+/// What an input shows, and the report of what it feeds.
+fn seen(image: &mut Image, input: &Input) -> (Outcome, Option<Reported>) {
+    let reported = image.clone().report_of(input);
+    (image.input(input), reported)
 }
 
-fn assert_same_from_now_on(mut used: Image, mut new: Image, random: &mut Random, events: &[Event]) {
-    for (place, event) in events.iter().enumerate() {
-        turned_away(&mut used, random, event);
-        turned_away(&mut new, random, event);
-        let (of_used, of_new) = (seen(&mut used, event), seen(&mut new, event));
-        assert_eq!(of_used, of_new, "{:?}", &events[..=place]);
+fn assert_same_from_now_on(mut used: Image, mut new: Image, random: &mut Random, inputs: &[Input]) {
+    for (place, input) in inputs.iter().enumerate() {
+        turned_away(&mut used, random, input);
+        turned_away(&mut new, random, input);
+        let (of_used, of_new) = (seen(&mut used, input), seen(&mut new, input));
+        assert_eq!(of_used, of_new, "{:?}", &inputs[..=place]);
         assert_eq!(used.flag_bytes(), new.flag_bytes());
     }
     assert_eq!(used, new);
@@ -67,20 +66,21 @@ fn any_first_list_is_forgotten() {
     let mut random = Random::new(3);
     let mut marked = 0;
     for list in 0..FIRST_LISTS {
-        let flavour = FLAVOURS[list % FLAVOURS.len()];
-        let mut used = Image::new((list / FLAVOURS.len() % 16) as u8).unwrap();
+        let (flavour, locks) = in_turn(list);
+        let mut used = Image::new(locks).unwrap();
         let length = random.below(LONGEST_FIRST + 1);
-        let first = random_events(&mut random, flavour, length);
+        let first = random_inputs(&mut random, flavour, length);
         run(&mut used, &mut random, &first);
         marked += usize::from(used != new_like(&used));
 
         let mut at_once = used.clone();
         let shown = at_once.resynchronise();
-        assert_eq!(run(&mut used, &mut random, &resynchronising()), Some(shown));
+        let all_up = all_up_inputs(&mut random);
+        assert_eq!(run(&mut used, &mut random, &all_up), Some(shown));
         assert_eq!(used, at_once, "one call does what the run, E and R do");
         let new = new_like(&used);
         assert_eq!(used, new, "after {first:?}");
-        let further = random_events(&mut random, flavour, FURTHER_EVENTS);
+        let further = random_inputs(&mut random, flavour, FURTHER_EVENTS);
         assert_same_from_now_on(used, new, &mut random, &further);
     }
     println!("{FIRST_LISTS} first lists are forgotten; {marked} of them had left a mark");

@@ -29,6 +29,10 @@ pub const EVENT_CUT_SHORT: u8 = 7;
 pub const PACK_TOO_LONG: u8 = 8;
 pub const BUFFER_TOO_SHORT: u8 = 9;
 pub const START_BEYOND_PACK: u8 = 10;
+/// Also for a number that has more bits than a frame.
+pub const BAD_START_BIT: u8 = 11;
+pub const BAD_PARITY_BIT: u8 = 12;
+pub const BAD_STOP_BIT: u8 = 13;
 
 /// What an event answers: the number and the word shown with it.
 #[derive(Clone, Copy, Debug, PartialEq, Eq)]

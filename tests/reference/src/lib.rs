@@ -7,7 +7,9 @@
 
 pub mod answer;
 pub mod flags;
+pub mod frame;
 pub mod generator;
+pub mod input;
 pub mod line;
 pub mod pack;
 pub mod prefix;
@@ -18,6 +20,8 @@ pub mod service;
 pub mod stored;
 pub mod vectors;
 
+pub use frame::{read_frame, write_frame};
+pub use input::Input;
 pub use pack::{read_event, Event, MAXIMUM_PACK};
 pub use report::{report, trace, REPORT_LENGTH};
 pub use service::{Outcome, Service};

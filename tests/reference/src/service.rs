@@ -2,6 +2,8 @@
 
 use crate::answer::{self, Answer};
 use crate::flags::{self, Flags};
+use crate::frame::read_frame;
+use crate::input::Input;
 use crate::line::Line;
 use crate::pack::Event;
 use crate::prefix::{Meaning, Prefix};
@@ -70,11 +72,22 @@ impl Service {
             Event::Restart => 0,
             _ => sent_before,
         };
-        Outcome {
-            ans: answer.number,
-            word: answer.word,
-            flags: self.flag_bytes(),
-            sent,
+        self.outcome(answer, sent)
+    }
+
+    /// What comes over the wire of a board without a controller chip: the event of the frame's
+    /// byte. From a refused frame nothing reaches keys, queue or line.
+    pub fn frame(&mut self, frame: u16) -> Outcome {
+        match read_frame(frame) {
+            Ok(byte) => self.event(&Event::Key(byte)),
+            Err(refusal) => self.outcome(Answer::refused(refusal), self.line.sent()),
+        }
+    }
+
+    pub fn input(&mut self, input: &Input) -> Outcome {
+        match *input {
+            Input::Event(event) => self.event(&event),
+            Input::Frame(frame) => self.frame(frame),
         }
     }
 
@@ -101,6 +114,15 @@ impl Service {
     /// The number typed so far under Alt; 0 whenever no Alt is down.
     pub fn alt_sum(&self) -> u8 {
         self.alt_sum
+    }
+
+    fn outcome(&self, answer: Answer, sent: u8) -> Outcome {
+        Outcome {
+            ans: answer.number,
+            word: answer.word,
+            flags: self.flag_bytes(),
+            sent,
+        }
     }
 
     fn empty(&mut self) -> Answer {

@@ -16,6 +16,12 @@ enum-told-3 c = search needs
 enum-told-4 : tie.Need-enum-told-4
 enum-told-4 c = search needs
 
+enum-known-refusal : tie.Need-enum-known-refusal
+enum-known-refusal c = search needs
+
+refused-frame-requires : tie.Need-refused-frame-requires
+refused-frame-requires c κs = search needs
+
 returns : tie.Need-returns
 returns c = simp (c .enum-told .given .1)
 
@@ -28,7 +34,21 @@ returns-3 c = simp (c .enum-told3 .given .1)
 returns-4 : tie.Need-returns-4
 returns-4 c = simp (c .enum-told4 .given .1)
 
+returns-5 : tie.Need-returns-5
+returns-5 c = simp (c .refused-frame .ensures, c .before .before .refusal .given .1)
+
 pub refused-spec : {M : Type 1} → statement M
 refused-spec =
     tie.close
-    (tie.spec enum-told enum-told-2 enum-told-3 enum-told-4 returns returns-2 returns-3 returns-4)
+    (tie.spec
+    enum-told
+    enum-told-2
+    enum-told-3
+    enum-told-4
+    enum-known-refusal
+    refused-frame-requires
+    returns
+    returns-2
+    returns-3
+    returns-4
+    returns-5)

@@ -101,7 +101,7 @@ returns-10 : tie.Need-returns-10
 returns-10 c = search needs
 
 returns-11 : tie.Need-returns-11
-returns-11 c = search needs
+returns-11 c = simp (c .before .answer4 .given .1)
 
 returns-12 : tie.Need-returns-12
 returns-12 c = search needs

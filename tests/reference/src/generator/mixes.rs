@@ -23,6 +23,13 @@ pub const FLAVOURS: [Flavour; 5] = [
     Flavour::Enhanced,
 ];
 
+/// The flavour of a numbered list and the locks it starts from: each flavour in turn, then with the
+/// next setting of the locks.
+pub fn in_turn(number: usize) -> (Flavour, u8) {
+    let locks = number / FLAVOURS.len() % 16;
+    (FLAVOURS[number % FLAVOURS.len()], locks as u8)
+}
+
 impl Flavour {
     fn kind(self) -> &'static str {
         match self {

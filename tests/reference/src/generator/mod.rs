@@ -1,7 +1,9 @@
-//! Packs to compare programs with: systematic ones for every rule, and random mixes.
+//! Packs to compare programs with: systematic ones for every rule, and random mixes. For the calls
+//! that no pack holds, random lists.
 
 mod calls;
 mod enhanced;
+mod frames;
 mod keys;
 mod line;
 mod mixes;
@@ -11,9 +13,10 @@ mod random;
 mod refused;
 mod writer;
 
-pub use mixes::{random_events, Flavour, FLAVOURS};
+pub use frames::{all_up_inputs, random_inputs};
+pub use mixes::{in_turn, random_events, Flavour, FLAVOURS};
 pub use random::Random;
-pub use writer::{Writer, ALL_UP_RUN};
+pub use writer::Writer;
 
 use crate::pack::MAXIMUM_PACK;
 

@@ -1,0 +1,77 @@
+-- The laws that TakenOut.antt of specs/ states: an item that leaves its service as it was can be taken out of any list.
+-- Assumes nothing.
+use Prim.Native.Nat.{ℕ, _-_}
+use mathlib.Core.Path.{_≡_, refl, ap, sym, _∙_}
+use mathlib.Core.Bool.{Bool, true, false, true≢false}
+use mathlib.Core.List.{List, [], _∷_}
+use lib.Dec.{ltb}
+use native.Mathlib.Omega.{arith}
+use borrow.Author.Tests.{ltb-true, lt-ltb, not-true}
+use Rattle.bits.specs.Choice.{if_then_else_}
+use Rattle.frame.specs.declared.Reading.{Reading}
+use Rattle.frame.specs.declared.Reading.the-variants.{Byte, Refused}
+use Rattle.frame.specs.Frame.{readFrame}
+use Rattle.frame.specs.Laws.{isAccepted}
+use Rattle.state.specs.declared.Service.{Service}
+use Rattle.events.specs.declared.Event.{Event}
+use Rattle.events.specs.Step.{stepOf}
+use Rattle.events.specs.Run.{shownOf}
+use Rattle.events.proofs.RefusedCalls.{refused-step}
+use Rattle.report.specs.Report.{reportOf}
+use Rattle.lists.specs.Items.{Item, runs, reports, receives, Stepped, stepItem, nextItem, afterItems, seenItems}
+use Rattle.lists.specs.TakenOut.{others, TakenOut, refusedFrame, RefusedFramesOut, refused, RefusedOut}
+use Rattle.lists.proofs.ItemLaws.{refused-runs-nothing, by-item}
+
+-- ---- any items that leave their service
+
+module _ (picked : Service → Item → Bool)
+    (leaves : (service : Service) (item : Item) → picked service item ≡ true → nextItem service item ≡ service) where
+  one-more : (service : Service) (item : Item) (more : List Item) (out : Bool) → picked service item ≡ out
+      → TakenOut picked (nextItem service item) more → TakenOut picked service (item ∷ more)
+  unfolding if_then_else_
+  one-more service item more true is h =
+      let same = leaves service item is in
+      let rest = others picked (nextItem service item) more in
+      record {
+        seen = simp is (ap (λ (s : Service). seenItems s rest) (sym same) ∙ h .seen);
+        last = simp is (ap (λ (s : Service). afterItems s rest) (sym same) ∙ h .last);
+      }
+  one-more service item more false is h = record { seen = simp is (ap (_∷_ (stepItem service item .seen)) (h .seen)); last = simp is (h .last) }
+
+  taken-out : (service : Service) (items : List Item) → TakenOut picked service items
+  taken-out service [] = record { seen = refl; last = refl }
+  taken-out service (item ∷ more) = one-more service item more _ refl (taken-out (nextItem service item) more)
+
+-- ---- refused frames
+
+fault-leaves : (service : Service) (frame : ℕ) (reading : Reading) → readFrame frame ≡ reading → isAccepted reading ≡ false
+    → nextItem service (receives frame) ≡ service
+fault-leaves service frame (Byte byte) is accepted = absurd (true≢false accepted)
+fault-leaves service frame (Refused fault) is accepted = ap (λ (s : Stepped). s .service) (refused-runs-nothing service frame fault is)
+
+frame-leaves : (service : Service) (item : Item) → refusedFrame service item ≡ true → nextItem service item ≡ service
+frame-leaves service (runs event) is = absurd (true≢false (sym is))
+frame-leaves service (reports event buffer) is = absurd (true≢false (sym is))
+frame-leaves service (receives frame) is = fault-leaves service frame (readFrame frame) refl (not-true _ is)
+
+pub refused-frames-out : RefusedFramesOut
+refused-frames-out = taken-out refusedFrame frame-leaves
+
+-- ---- all that is refused
+
+-- a step that is refused
+abbrev Leaves : Service → Stepped → Type 0
+Leaves service stepped = ltb 0 (stepped .seen .refusal) ≡ true → stepped .service ≡ service
+
+event-leaves : (service : Service) (event : Event) → Leaves service (stepItem service (runs event))
+unfolding stepItem
+event-leaves service event is =
+    refused-step service event (lt-ltb 0x7F (shownOf (stepOf service event) .ans) (omega (arith, ltb-true 0 (shownOf (stepOf service event) .ans - 0x80) is)))
+
+item-leaves : (service : Service) (item : Item) → Leaves service (stepItem service item)
+unfolding stepItem reportOf
+item-leaves service =
+    by-item (Leaves service) service (event-leaves service) (λ buffer _. refl) (λ event buffer. event-leaves service event) (λ fault _. refl)
+
+pub refused-out : RefusedOut
+refused-out = taken-out refused item-leaves

@@ -1,0 +1,19 @@
+-- The proof of `xiquepazo::over_event::refused_frame`.
+-- Assumes nothing.
+use Rattle.image_calls.specs.Exports.{refusedIn}
+use borrow.Author.Needs.{needs}
+use Rattle.xiquepazo.proofs.over_event.refused_frame.Statement.{statement}
+use Rattle.xiquepazo.proofs.over_event.refused_frame.Tie as tie
+
+number-requires : tie.Need-number-requires
+number-requires c κs = search needs
+
+standing-requires : tie.Need-standing-requires
+standing-requires c κs = search needs
+
+returns : tie.Need-returns
+unfolding refusedIn
+returns c = simp (c .standing .ensures, ← (c .before .number .ensures))
+
+pub refused-frame-spec : {M : Type 1} → statement M
+refused-frame-spec = tie.close (tie.spec number-requires standing-requires returns)

@@ -1,0 +1,84 @@
+//! Frames, as a board without a controller chip hands them over: each byte has the frame that the
+//! reference writes, each of the 65,536 numbers is read as the reference reads it, and refused frames
+//! could as well not have come.
+
+use differential::{frame_of, Image, Pair};
+use reference::generator::{in_turn, random_inputs, Random};
+use reference::Event::{self, Key, Poll};
+use reference::{read_frame, write_frame};
+
+const LISTS: usize = 8_000;
+const LONGEST: usize = 200;
+
+/// What brings a new service into use, each another part of it.
+const USES: [&[Event]; 11] = [
+    &[],
+    // A command runs, which has sent one byte, and three.
+    &[Poll],
+    &[Poll, Key(0xFE), Poll, Key(0xFA), Poll],
+    // Each prefix is open.
+    &[Key(0xE0)],
+    &[Key(0xE1)],
+    &[Key(0xE1), Key(0x1D)],
+    &[Key(0xE1), Key(0x9D)],
+    // Paused.
+    &[Key(0xE1), Key(0x1D), Key(0x45)],
+    // The queue is full.
+    &[Key(0x39); 15],
+    // Both Shift and both Ctrl keys are down.
+    &[Key(0x2A), Key(0x36), Key(0x1D), Key(0xE0), Key(0x1D)],
+    // Both Alt keys are down, and a sum is typed.
+    &[Key(0x38), Key(0xE0), Key(0x38), Key(0x4F)],
+];
+
+/// From a copy of the service: the frame of a byte does what the byte does, any other number nothing.
+fn assert_read(pair: &Pair, frame: u16) {
+    let Pair {
+        mut image,
+        mut service,
+    } = pair.clone();
+    let shown = image.frame(frame);
+    assert_eq!(shown, service.frame(frame), "{frame:011b}");
+    let mut expected = pair.image.clone();
+    if let Ok(byte) = read_frame(frame) {
+        assert_eq!(shown, expected.key(byte), "{byte:02X}");
+    }
+    assert_eq!(image, expected, "{frame:011b}");
+}
+
+#[test]
+fn each_byte_has_its_frame() {
+    for byte in 0..=255 {
+        assert_eq!(frame_of(byte), write_frame(byte), "{byte:02X}");
+    }
+}
+
+#[test]
+fn every_number_is_read_as_the_reference_reads_it() {
+    for (place, events) in USES.into_iter().enumerate() {
+        let mut pair = Pair::new((3 * place % 16) as u8);
+        events.iter().for_each(|event| pair.event(event));
+        for frame in 0..=u16::MAX {
+            assert_read(&pair, frame);
+        }
+    }
+}
+
+#[test]
+fn refused_frames_can_be_taken_out() {
+    let mut random = Random::new(0xF8A);
+    for list in 0..LISTS {
+        let (flavour, locks) = in_turn(list);
+        let mut whole = Image::new(locks).unwrap();
+        let mut without = whole.clone();
+        let length = random.below(LONGEST + 1);
+        let inputs = random_inputs(&mut random, flavour, length);
+        for input in &inputs {
+            let shown = whole.input(input);
+            if input.fed().is_some() {
+                assert_eq!(shown, without.input(input), "{inputs:X?}");
+            }
+        }
+        assert_eq!(whole, without, "{inputs:X?}");
+    }
+}
