@@ -3,12 +3,12 @@
  *
  * Link target/staticlib/libxiquepazo.a, which `rt staticlib xiquepazo` writes; it needs no other library. x86-64 Linux.
  *
- * The caller keeps the service, as a struct of numbers, and lends it to each call. Every call is proved against the definitions of
- * document 01. It trusts none of the numbers: whatever they are, they mean some service. What it does trust is the pointers, which
- * must be valid, aligned and not null, and must not overlap. One service is used by one thread at a time; an interrupt handler counts as
- * one. Nothing is kept between calls, so different services may be used at the same time.
+ * The caller keeps the service, as a struct of numbers, and lends it to each call. Every call is proved against the definitions of document
+ * 01 and of the requests of document 02. It trusts none of the numbers: whatever they are, they mean some service. What it does trust is the
+ * pointers, which must be valid, aligned and not null, and must not overlap. One service is used by one thread at a time; an interrupt
+ * handler counts as one. Nothing is kept between calls, so different services may be used at the same time.
  *
- * A call takes less than 2 KB of stack (1,429 bytes measured, by a report) and writes to the registers xmm0 to xmm4, which an interrupt
+ * A call takes less than 2 KB of stack (1,632 bytes measured, by a report) and writes to the registers xmm0 to xmm4, which an interrupt
  * handler that calls the library has to save.
  *
  * Refusals, by who causes them. A refused call leaves the service as it was, byte for byte.
@@ -124,6 +124,13 @@ enum {
     XIQUEPAZO_97_GIVEN_UP = 0x80
 };
 
+/*
+ * The two halves of `input`. The lower one is the open prefix: 0 none, 1 E0, 2 E1, 3 E1 1D, 4 E1 9D; any other number is none. The upper one is
+ * the codes that come: 0 set 1, 1 set 2, 2 set 2 with the next code marked as a break; any other number is set 1.
+ */
+#define XIQUEPAZO_PREFIX(input) ((input) & 0x0F)
+#define XIQUEPAZO_CODES(input) ((input) >> 4)
+
 /* Flag bytes 17, 18, 96 and 97 of the BIOS data area. */
 struct xiquepazo_flag_bytes {
     uint8_t byte17;
@@ -167,8 +174,8 @@ struct xiquepazo_queue {
 };
 
 /*
- * The service. Make it by xiquepazo_make, or fill it with zeros, which is a service newly made with no lock on; then leave it to the
- * calls. Each number has a range, which no call leaves, and a number beyond it is read as the range's comment says. 64 bytes, none of
+ * The service. Make it by xiquepazo_make or xiquepazo_make_set_2, or fill it with zeros, which is a service newly made on set 1 with no lock on;
+ * then leave it to the calls. Each number has a range, which no call leaves, and a number beyond it is read as the range's comment says. 64 bytes, none of
  * them padding.
  *
  * From then on its first four bytes are the flag bytes as they stand after the last call, and a panel may read them there; xiquepazo_flags
@@ -177,13 +184,13 @@ struct xiquepazo_queue {
  *   18  all eight
  *   96  2, right Ctrl; 3, right Alt
  *   97  0 to 2, the LED value done last; 4, acknowledged; 5, resend; 7, given up
- * The other bits follow from these, from the prefix and from the command, or have no meaning. They are ignored, and every call that writes
+ * The other bits follow from these, from `input` and from the command, or have no meaning. They are ignored, and every call that writes
  * the service writes them anew.
  */
 struct xiquepazo_service {
     struct xiquepazo_flag_bytes flags;
-    uint8_t prefix; /* 0 none, 1 E0, 2 E1, 3 E1 1D, 4 E1 9D; any other number is none */
-    uint8_t sum;    /* the Alt sum, 0 to 255 */
+    uint8_t input; /* how the next keyboard byte is read: XIQUEPAZO_PREFIX and XIQUEPAZO_CODES of it */
+    uint8_t sum;   /* the Alt sum, 0 to 255 */
     struct xiquepazo_line line;
     struct xiquepazo_queue queue;
 };
@@ -193,7 +200,7 @@ struct xiquepazo_service {
 typedef char xiquepazo_service_is_64_bytes[sizeof(struct xiquepazo_service) == 64 ? 1 : -1];
 typedef char xiquepazo_flag_bytes_stand_first
     [XIQUEPAZO_AT(flags.byte17, 0) && XIQUEPAZO_AT(flags.byte18, 1) && XIQUEPAZO_AT(flags.byte96, 2) && XIQUEPAZO_AT(flags.byte97, 3) ? 1 : -1];
-typedef char xiquepazo_prefix_stands_at_4[XIQUEPAZO_AT(prefix, 4) && XIQUEPAZO_AT(sum, 5) ? 1 : -1];
+typedef char xiquepazo_input_stands_at_4[XIQUEPAZO_AT(input, 4) && XIQUEPAZO_AT(sum, 5) ? 1 : -1];
 typedef char xiquepazo_line_stands_at_6
     [XIQUEPAZO_AT(line.rate.known, 6) && XIQUEPAZO_AT(line.rate.value, 7) && XIQUEPAZO_AT(line.handled.known, 8)
              && XIQUEPAZO_AT(line.handled.value, 9) && XIQUEPAZO_AT(line.command.phase, 10) && XIQUEPAZO_AT(line.command.kind, 11)
@@ -209,7 +216,7 @@ typedef char xiquepazo_queue_stands_at_16
 #undef XIQUEPAZO_AT
 
 /*
- * What is seen of an event or a frame: its answer, its word (put, dropped, returned, a status, or to be sent, else 0), the count of bytes sent
+ * What is seen of an event, a frame or a change of set: its answer, its word (put, dropped, returned, a status, or to be sent, else 0), the count of bytes sent
  * by the command that runs or ended with it, and the flag bytes after it.
  */
 struct xiquepazo_shown {
@@ -233,8 +240,24 @@ struct xiquepazo_tagged {
     uint8_t c;
 };
 
-/* Makes a new service with the lock bits (bit 0 Scroll, 1 Num, 2 Caps, 3 Insert). Returns 0, or refusal 1 for bits above 15. */
+/*
+ * Makes a new service with the lock bits (bit 0 Scroll, 1 Num, 2 Caps, 3 Insert), for a keyboard of scan code set 1. Returns 0, or refusal 1 for
+ * bits above 15.
+ */
 uint8_t xiquepazo_make(struct xiquepazo_service *service, uint8_t bits);
+
+/*
+ * The same for a keyboard of set 2, whose bytes come untranslated: each keyboard byte, by itself or as a frame, is translated to set 1 first. F0
+ * marks the next code as a break and has nothing to tell: ans 00.
+ */
+uint8_t xiquepazo_make_set_2(struct xiquepazo_service *service, uint8_t bits);
+
+/*
+ * Changes the set between events, also to the set that is in force. A mark that F0 left is closed; all else stays, an open prefix too. Shows ans
+ * 00, with the flag bytes and `sent` as they stand. Never refused.
+ */
+struct xiquepazo_shown xiquepazo_to_set_1(struct xiquepazo_service *service);
+struct xiquepazo_shown xiquepazo_to_set_2(struct xiquepazo_service *service);
 
 /* Any event. Refusals 2 to 5, and 6 for an unknown tag, as ans 82 to 86. */
 struct xiquepazo_shown xiquepazo_event(struct xiquepazo_service *service, struct xiquepazo_tagged event);
@@ -246,8 +269,9 @@ struct xiquepazo_shown xiquepazo_event(struct xiquepazo_service *service, struct
 uint8_t xiquepazo_report(struct xiquepazo_service *service, struct xiquepazo_tagged event, void *buffer, size_t length);
 
 /*
- * After a plug event: leaves the service as the all-up run, E and R would, whatever it was. No key is down, no prefix open, nothing paused or
- * waiting, the queue empty; the four locks stay. Shows what this R shows: XIQUEPAZO_DONE, and the locks in byte 17. Never refused.
+ * After a plug event: leaves the service as the all-up run of its set, E and R would, whatever it was. No key is down, no prefix open, no code
+ * marked, nothing paused or waiting, the queue empty; the four locks and the set stay. Shows what this R shows: XIQUEPAZO_DONE, and the locks in
+ * byte 17. Never refused.
  */
 struct xiquepazo_shown xiquepazo_resynchronise(struct xiquepazo_service *service);
 
@@ -289,7 +313,7 @@ static inline struct xiquepazo_shown xiquepazo_tag(struct xiquepazo_service *ser
     return xiquepazo_event(service, event);
 }
 
-/* A byte from the keyboard: scan codes, and the replies FA and FE to what was sent. Never refused. */
+/* A byte from the keyboard: scan codes of the set in force, and the replies FA and FE to what was sent. Never refused. */
 static inline struct xiquepazo_shown xiquepazo_key(struct xiquepazo_service *service, uint8_t byte)
 {
     return xiquepazo_tag(service, 'K', byte, 0, 0);

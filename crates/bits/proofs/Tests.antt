@@ -15,6 +15,12 @@ pub and-right : (a b : Bool) → T (a && b) → T b
 and-right true b t = t
 and-right false b t = absurd t
 
+pub each-of-four : (p q r s : Bool) → T (p && (q && (r && s))) → T p × T q × T r × T s
+each-of-four p q r s t =
+    let u = and-right p (q && (r && s)) t in
+    let v = and-right q (r && s) u in
+    (and-left p (q && (r && s)) t, and-left q (r && s) u, and-left r s v, and-right r s v)
+
 pub record Neither (a b : Bool) : Type 0 where
   pub first : a ≡ false
   pub second : b ≡ false

@@ -1,8 +1,9 @@
 pub mod Model
 pub mod Lists
+pub mod Calls
+pub mod SetTwo
 pub mod Resynchronised
 pub mod Bench
-pub mod Calls
 pub mod RefusedCalls
 pub mod SentCounts
 pub mod Ranges

@@ -22,6 +22,10 @@ use Rattle.queue.proofs.Laws.{at-most-capacity, empty-holds-none, stays-whole, 
 use Rattle.line.specs.declared.Answer.{Answer as LineAnswer}
 use Rattle.line.specs.declared.Answer.the-variants as line-answer
 use Rattle.line.specs.declared.Outcome.{Outcome as LineOutcome}
+use Rattle.translation.specs.declared.CodeSet.{CodeSet}
+use Rattle.translation.specs.declared.Passed.{Passed}
+use Rattle.translation.specs.declared.Passed.the-variants as passed
+use Rattle.translation.specs.Translation.{translatedOf}
 use Rattle.state.specs.declared.Service.{Service}
 use Rattle.events.specs.declared.Event.{Event}
 use Rattle.events.specs.declared.Event.the-variants.{Key, Call, Poll, TimeOut, Empty, Restart}
@@ -31,12 +35,12 @@ use Rattle.answers.specs.declared.Answer.the-variants.{Put, Dropped, Taken, Bre
 use Rattle.events.specs.declared.Outcome.{Outcome}
 use Rattle.state.specs.State.{newService}
 use Rattle.events.specs.Outcomes.{answeredOf, offeredOf}
-use Rattle.events.specs.Keyboard.{breakWord, brokenOf, onEffect, typedOf, keyOf}
+use Rattle.events.specs.Keyboard.{breakWord, brokenOf, onEffect, typedOf, readOf, onPassed, keyOf}
 use Rattle.events.specs.Commands.{lineAnswer, onLine, pollOf, acknowledgeOf, resendOf, timeOutOf, restartOf}
 use Rattle.events.specs.Functions.{oldestAnswer, forOldProgram, takeOf, lookOf, statusOf, setRateOf, callOf}
 use Rattle.events.specs.Step.{emptyOf, stepOf}
 use Rattle.events.specs.Run.{next, after}
-use Rattle.events.specs.Queued.{foundBy, removes, empties, wordsAfter, Fits, QueueAsListed, QueueAtMostCapacity}
+use Rattle.events.specs.Queued.{foundBy, removes, empties, wordsAfter, Fits, Listed, QueueAsListed, QueueAtMostCapacity}
 
 -- the words that an event found, what it answers and the queue after it
 record Told (event : Event) (found : List Word) (answer : Answer) (later : Queue) : Type 0 where
@@ -128,9 +132,9 @@ line-tells : (event : Event) (service : Service) (after : LineOutcome) (taken : 
 unfolding onLine
 line-tells event service after taken h w = record { told = same (service .queue) w (line-idle event (after .answer) taken h) }
 
-typed-tells : (service : Service) (byte : ℕ) → Whole (service .queue) → Tells (Key byte) (wordsOf (service .queue)) (typedOf service byte)
+typed-tells : (service : Service) (raw byte : ℕ) → Whole (service .queue) → Tells (Key raw) (wordsOf (service .queue)) (typedOf service byte)
 unfolding typedOf
-typed-tells service byte w = effect-tells byte _ (keyByteOf (service .port) (service .shared) byte .effect) w
+typed-tells service raw byte w = effect-tells raw _ (keyByteOf (service .port) (service .shared) byte .effect) w
 
 acknowledge-tells : (service : Service) (byte : ℕ) → Whole (service .queue) → Tells (Key byte) (wordsOf (service .queue)) (acknowledgeOf service)
 unfolding acknowledgeOf
@@ -140,11 +144,21 @@ resend-tells : (service : Service) (byte : ℕ) → Whole (service .queue) → T
 unfolding resendOf
 resend-tells service byte w = line-tells (Key byte) service _ Taken (record { words = λ _. refl; fits = λ _. tt }) w
 
+-- a byte that came raw, and what it became
+read-tells : (service : Service) (raw byte : ℕ) → Whole (service .queue) → Tells (Key raw) (wordsOf (service .queue)) (readOf service byte)
+unfolding readOf
+read-tells service raw byte w =
+    either (Tells (Key raw) (wordsOf (service .queue))) _ _ _ (acknowledge-tells service raw w)
+    (either (Tells (Key raw) (wordsOf (service .queue))) _ _ _ (resend-tells service raw w) (typed-tells service raw byte w))
+
+passed-tells : (service : Service) (raw : ℕ) (p : Passed) → Whole (service .queue) → Tells (Key raw) (wordsOf (service .queue)) (onPassed service p)
+unfolding answeredOf
+passed-tells service raw passed.Nothing w = record { told = same (service .queue) w (record { words = λ _. refl; fits = λ _. tt }) }
+passed-tells service raw (passed.Byte byte) w = read-tells service raw byte w
+
 key-tells : (service : Service) (byte : ℕ) → Whole (service .queue) → Tells (Key byte) (wordsOf (service .queue)) (keyOf service byte)
 unfolding keyOf
-key-tells service byte w =
-    either (Tells (Key byte) (wordsOf (service .queue))) _ _ _ (acknowledge-tells service byte w)
-    (either (Tells (Key byte) (wordsOf (service .queue))) _ _ _ (resend-tells service byte w) (typed-tells service byte w))
+key-tells service byte w = passed-tells _ byte (translatedOf (service .codes) byte .passed) w
 
 -- ---- functions
 
@@ -245,20 +259,24 @@ step-tells service TimeOut w = line-tells TimeOut service _ Done (done refl) w
 step-tells service Empty w = record { told = record { words = empty-holds-none ∙ emptied (wordsOf (service .queue)); fits = tt; whole = stays-whole .empty } }
 step-tells service Restart w = record { told = same (service .queue) w (done refl) }
 
+pub listed : (service : Service) (event : Event) → Whole (service .queue) → Listed service event
+listed service event w = let told = step-tells service event w .told in record { words = told .words; fits = told .fits }
+
+pub whole-next : (service : Service) (event : Event) → Whole (service .queue) → Whole (next service event .queue)
+whole-next service event w = step-tells service event w .told .whole
+
 -- ---- lists
 
 whole-after : (service : Service) (events : List Event) → Whole (service .queue) → Whole (after service events .queue)
 whole-after service [] w = w
-whole-after service (event ∷ more) w = whole-after (next service event) more (step-tells service event w .told .whole)
+whole-after service (event ∷ more) w = whole-after (next service event) more (whole-next service event w)
 
-whole-new : (locks : ℕ) → Whole (newService locks .queue)
+pub whole-new : (set : CodeSet) (locks : ℕ) → Whole (newService set locks .queue)
 unfolding newService
-whole-new locks = stays-whole .empty
+whole-new set locks = stays-whole .empty
 
 pub queue-as-listed : QueueAsListed
-queue-as-listed locks events event =
-    let told = step-tells (after (newService locks) events) event (whole-after (newService locks) events (whole-new locks)) .told in
-    record { words = told .words; fits = told .fits }
+queue-as-listed set locks events event = listed (after (newService set locks) events) event (whole-after (newService set locks) events (whole-new set locks))
 
 pub queue-at-most-capacity : QueueAtMostCapacity
-queue-at-most-capacity locks events = at-most-capacity (after (newService locks) events .queue)
+queue-at-most-capacity set locks events = at-most-capacity (after (newService set locks) events .queue)

@@ -16,6 +16,9 @@ use Rattle.queue.proofs.Laws.{queue-stays-in-range}
 use Rattle.line.specs.Inputs as input
 use Rattle.line.specs.Ranges.{ledValues, rateValues, InputInRange}
 use Rattle.line.proofs.Ranges.{line-stays-in-range}
+use Rattle.translation.specs.declared.Passed.{Passed}
+use Rattle.translation.specs.declared.Passed.the-variants as passed
+use Rattle.translation.specs.Translation.{translatedOf}
 use Rattle.state.specs.declared.Service.{Service}
 use Rattle.state.specs.State.{newService, withLine}
 use Rattle.state.specs.Ranges.{InRange}
@@ -24,10 +27,11 @@ use Rattle.events.specs.declared.Event.{Event}
 use Rattle.events.specs.declared.Event.the-variants.{Key, Call, Poll, TimeOut, Empty, Restart}
 use Rattle.events.specs.declared.Outcome.{Outcome}
 use Rattle.events.specs.Outcomes.{answeredOf, offeredOf}
-use Rattle.events.specs.Keyboard.{brokenOf, onEffect, typedOf, keyOf}
+use Rattle.events.specs.Keyboard.{brokenOf, onEffect, typedOf, readOf, onPassed, keyOf}
 use Rattle.events.specs.Commands.{ledValue, onLine, pollOf, acknowledgeOf, resendOf, timeOutOf, restartOf}
 use Rattle.events.specs.Functions.{forOldProgram, takeOf, lookOf, statusOf, setRateOf, callOf}
 use Rattle.events.specs.Step.{emptyOf, stepOf}
+use Rattle.events.specs.Sets.{changeOf}
 use Rattle.events.specs.Ranges.{StaysInRange}
 use Rattle.events.proofs.Calls.{call-by}
 
@@ -75,12 +79,20 @@ led-in false true false = lit≤ tt
 led-in false false true = lit≤ tt
 led-in false false false = lit≤ tt
 
-key-in : (service : Service) (byte : ℕ) → InRange service → Left (keyOf service byte)
-unfolding keyOf acknowledgeOf resendOf onLine
-key-in service byte h =
+read-in : (service : Service) (byte : ℕ) → InRange service → Left (readOf service byte)
+unfolding readOf acknowledgeOf resendOf onLine
+read-in service byte h =
     either Left _ _ _ (record { left = line-in service input.acknowledge tt h })
     (either Left _ _ _ (record { left = line-in service input.resend tt h })
     (typed-in service byte h))
+
+passed-in : (service : Service) (p : Passed) → InRange service → Left (onPassed service p)
+passed-in service passed.Nothing h = answered-in service _ h
+passed-in service (passed.Byte byte) h = read-in service byte h
+
+key-in : (service : Service) (byte : ℕ) → InRange service → Left (keyOf service byte)
+unfolding keyOf
+key-in service byte h = passed-in _ (translatedOf (service .codes) byte .passed) (record { queue = h .queue; line = h .line })
 
 poll-in : (service : Service) → InRange service → Left (pollOf service)
 unfolding pollOf onLine ledValue
@@ -138,9 +150,10 @@ step-in service Empty h = answered-in _ _ (record { queue = queue-stays-in-range
 step-in service Restart h = record { left = line-in service input.restart tt h }
 
 pub stays-in-range : StaysInRange
-unfolding newService
+unfolding newService changeOf
 stays-in-range =
     record {
-      new = λ locks. record { queue = queue-stays-in-range .empty; line = line-stays-in-range .new };
+      new = λ set locks. record { queue = queue-stays-in-range .empty; line = line-stays-in-range .new };
       event = λ service event h. step-in service event h .left;
+      change = λ service set h. answered-in _ _ (record { queue = h .queue; line = h .line }) .left;
     }

@@ -22,6 +22,9 @@ use Rattle.queue.specs.Queue as queue
 use Rattle.line.specs.declared.Answer.{Answer as LineAnswer}
 use Rattle.line.specs.declared.Answer.the-variants as line-answer
 use Rattle.line.specs.declared.Outcome.{Outcome as LineOutcome}
+use Rattle.translation.specs.declared.Passed.{Passed}
+use Rattle.translation.specs.declared.Passed.the-variants as passed
+use Rattle.translation.specs.Translation.{translatedOf}
 use Rattle.state.specs.declared.Service.{Service}
 use Rattle.events.specs.declared.Event.{Event}
 use Rattle.events.specs.declared.Event.the-variants.{Key, Call, Poll, TimeOut, Empty, Restart}
@@ -33,7 +36,7 @@ use Rattle.events.specs.declared.Outcome.{Outcome}
 use Rattle.state.specs.State.{withQueue}
 use Rattle.answers.specs.Answers.{ansOf}
 use Rattle.events.specs.Outcomes.{answeredOf, offeredOf}
-use Rattle.events.specs.Keyboard.{brokenOf, onEffect, typedOf, keyOf}
+use Rattle.events.specs.Keyboard.{brokenOf, onEffect, typedOf, readOf, onPassed, keyOf}
 use Rattle.events.specs.Commands.{lineAnswer, onLine, pollOf, acknowledgeOf, resendOf, timeOutOf, restartOf}
 use Rattle.events.specs.Functions.{oldestAnswer, forOldProgram, takeOf, lookOf, statusOf, setRateOf, callOf}
 use Rattle.events.specs.Step.{emptyOf, stepOf}
@@ -80,27 +83,36 @@ effect-keeps service before effect.Break = accepting (record { low = refl })
 effect-keeps service before effect.RestartAsked = accepting (record { low = refl })
 effect-keeps service before effect.Overrun = accepting (record { low = refl })
 
-typed-keeps : (service : Service) (byte : ℕ) → Keeps service (typedOf service byte)
+typed-keeps : (service before : Service) (byte : ℕ) → Keeps before (typedOf service byte)
 unfolding typedOf
-typed-keeps service byte = effect-keeps _ service (keyByteOf (service .port) (service .shared) byte .effect)
+typed-keeps service before byte = effect-keeps _ before (keyByteOf (service .port) (service .shared) byte .effect)
 
-line-keeps : (service : Service) (after : LineOutcome) (taken : Answer) → Accepts taken → Keeps service (onLine service after taken)
+line-keeps : (service before : Service) (after : LineOutcome) (taken : Answer) → Accepts taken → Keeps before (onLine service after taken)
 unfolding onLine
-line-keeps service after taken h = accepting (accept-line (after .answer) taken h)
+line-keeps service before after taken h = accepting (accept-line (after .answer) taken h)
 
-acknowledge-keeps : (service : Service) → Keeps service (acknowledgeOf service)
+acknowledge-keeps : (service before : Service) → Keeps before (acknowledgeOf service)
 unfolding acknowledgeOf
-acknowledge-keeps service = line-keeps service _ Taken (record { low = refl })
+acknowledge-keeps service before = line-keeps service before _ Taken (record { low = refl })
 
-resend-keeps : (service : Service) → Keeps service (resendOf service)
+resend-keeps : (service before : Service) → Keeps before (resendOf service)
 unfolding resendOf
-resend-keeps service = line-keeps service _ Taken (record { low = refl })
+resend-keeps service before = line-keeps service before _ Taken (record { low = refl })
+
+read-keeps : (service before : Service) (byte : ℕ) → Keeps before (readOf service byte)
+unfolding readOf
+read-keeps service before byte =
+    either (Keeps before) _ _ _ (acknowledge-keeps service before)
+    (either (Keeps before) _ _ _ (resend-keeps service before) (typed-keeps service before byte))
+
+passed-keeps : (service before : Service) (p : Passed) → Keeps before (onPassed service p)
+unfolding answeredOf
+passed-keeps service before passed.Nothing = accepting (record { low = refl })
+passed-keeps service before (passed.Byte byte) = read-keeps service before byte
 
 key-keeps : (service : Service) (byte : ℕ) → Keeps service (keyOf service byte)
 unfolding keyOf
-key-keeps service byte =
-    either (Keeps service) _ _ _ (acknowledge-keeps service)
-    (either (Keeps service) _ _ _ (resend-keeps service) (typed-keeps service byte))
+key-keeps service byte = passed-keeps _ service (translatedOf (service .codes) byte .passed)
 
 -- ---- functions
 
@@ -145,8 +157,8 @@ step-keeps : (service : Service) (event : Event) → Keeps service (stepOf servi
 unfolding stepOf pollOf timeOutOf emptyOf answeredOf restartOf
 step-keeps service (Key byte) = key-keeps service byte
 step-keeps service (Call function a b) = call-keeps service function a b
-step-keeps service Poll = line-keeps service _ Taken (record { low = refl })
-step-keeps service TimeOut = line-keeps service _ Done (record { low = refl })
+step-keeps service Poll = line-keeps service service _ Taken (record { low = refl })
+step-keeps service TimeOut = line-keeps service service _ Done (record { low = refl })
 step-keeps service Empty = accepting (record { low = refl })
 step-keeps service Restart = accepting (record { low = refl })
 

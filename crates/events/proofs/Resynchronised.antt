@@ -1,4 +1,4 @@
--- From every service, reached or not, the all-up run, E and R lead to the service newly made with the same locks.
+-- From every service, reached or not, the all-up run of its set, E and R lead to the service newly made on that set with the same locks.
 -- Assumes nothing.
 use Prim.Native.Nat.{ℕ}
 use mathlib.Core.Path.{_≡_, refl, ap, sym, _∙_}
@@ -20,19 +20,25 @@ use Rattle.port.specs.State.{eitherSide, newPort, withPrefix}
 use Rattle.port.specs.KeyByte.{keyByteOf}
 use Rattle.queue.specs.Queue.{emptyQueue}
 use Rattle.line.specs.State.{newLine}
+use Rattle.translation.specs.declared.CodeSet.{CodeSet}
+use Rattle.translation.specs.declared.CodeSet.the-variants.{One}
+use Rattle.translation.specs.declared.Codes.the-variants.{SetOne, SetTwo, SetTwoMarked}
+use Rattle.translation.specs.Translation.{unmarkedOf}
+use Rattle.translation.proofs.Laws.{set-back}
 use Rattle.state.specs.declared.Service.{Service}
 use Rattle.events.specs.declared.Event.the-variants.{Key, Empty, Restart}
 use Rattle.events.specs.declared.Outcome.{Outcome}
-use Rattle.state.specs.State.{withLocks, withPort, withQueue, withLine}
+use Rattle.state.specs.State.{locksOf, withLocks, newService, withPort, withQueue, withLine, withCodes}
 use Rattle.state.specs.Flags.{byte17Of}
-use Rattle.events.specs.Keyboard.{brokenOf, onEffect, typedOf, keyOf}
+use Rattle.events.specs.Keyboard.{brokenOf, onEffect, typedOf, readOf}
 use Rattle.events.specs.Outcomes.{answeredOf, offeredOf}
 use Rattle.events.specs.Step.{emptyOf, stepOf}
 use Rattle.events.specs.Commands.{restartOf}
-use Rattle.events.specs.Run.{next, after}
-use Rattle.events.specs.Resynchronised.{allUpRun, standingLocks, remade, OnlyLocksStay, Resynchronises, LocksStand}
+use Rattle.events.specs.Run.{after}
+use Rattle.events.specs.Resynchronised.{allUpRun, setIn, standingLocks, remade, RunTranslates, OnlyLocksStay, Resynchronises, LocksStand}
 use Rattle.events.proofs.Model.{model}
 use Rattle.events.proofs.Lists.{after-append}
+use Rattle.events.proofs.SetTwo.{afterRead, read}
 
 -- ---- bytes at a port
 
@@ -63,7 +69,7 @@ closes keys E1Break = refl
 
 -- the other bytes, by whether right Alt is down and whether the service is paused
 abbrev rest : List ℕ
-rest = drop 1 allUpRun
+rest = drop 1 (allUpRun One)
 
 abbrev from : Keys → Bool → Bool → Keys
 from keys rightAlt paused =
@@ -90,7 +96,7 @@ releases keys true false = refl
 releases keys false true = refl
 releases keys false false = refl
 
-all-up : (keys : Keys) → afterBytes keys allUpRun ≡ fresh (keys .shared .locks)
+all-up : (keys : Keys) → afterBytes keys (allUpRun One) ≡ fresh (keys .shared .locks)
 all-up keys =
     ap (λ (k : Keys). afterBytes k rest) (closes keys (keys .port .prefix))
     ∙ releases keys (keys .port .modifiers .alt .right) (keys .shared .paused)
@@ -126,8 +132,8 @@ choice-key false true x y z t = absurd t
 choice-key false false x y z t = refl
 
 key-queues : (service : Service) (byte : ℕ) → T (isKey byte)
-    → unqueued (next service (Key byte)) ≡ withKeys (unqueued service) (typedOn (keysOf service) byte)
-unfolding stepOf keyOf typedOf
+    → unqueued (readOf service byte .service) ≡ withKeys (unqueued service) (typedOn (keysOf service) byte)
+unfolding readOf typedOf
 key-queues service byte t =
     ap (λ (o : Outcome). unqueued (o .service)) (choice-key (eqb byte 0xFA) (eqb byte 0xFE) _ _ (typedOf service byte) t)
     ∙ effect-queues _ (keyByteOf (service .port) (service .shared) byte .effect)
@@ -137,11 +143,11 @@ allKeys [] = true
 allKeys (byte ∷ more) = isKey byte && allKeys more
 
 keys-queue : (service : Service) (bytes : List ℕ) → T (allKeys bytes)
-    → unqueued (after service (map Key bytes)) ≡ withKeys (unqueued service) (afterBytes (keysOf service) bytes)
+    → unqueued (afterRead service bytes) ≡ withKeys (unqueued service) (afterBytes (keysOf service) bytes)
 keys-queue service [] t = refl
 keys-queue service (byte ∷ more) t =
     let k = key-queues service byte (and-left (isKey byte) (allKeys more) t) in
-    keys-queue (next service (Key byte)) more (and-right (isKey byte) (allKeys more) t)
+    keys-queue (readOf service byte .service) more (and-right (isKey byte) (allKeys more) t)
     ∙ ap (λ (s : Service). withKeys s (afterBytes (keysOf s) more)) k
 
 -- ---- E and R
@@ -151,45 +157,64 @@ ended : (service : Service) → after service (Empty ∷ Restart ∷ []) ≡ wit
 unfolding stepOf emptyOf restartOf answeredOf
 ended service = refl
 
+-- ---- the run of either set
+
+pub run-translates : RunTranslates
+unfolding model
+run-translates SetOne = record { bytes = refl; codes-left = refl }
+run-translates SetTwo = record { bytes = refl; codes-left = refl }
+run-translates SetTwoMarked = record { bytes = refl; codes-left = refl }
+
+run-read : (service : Service) → after service (map Key (allUpRun (setIn service))) ≡ withCodes (afterRead service (allUpRun One)) (unmarkedOf (setIn service))
+run-read service =
+    let translates = run-translates (service .codes) in
+    read service (service .codes) (allUpRun (setIn service)) .last
+    ∙ rw (translates .bytes, translates .codes-left)
+
 pub only-locks-stay : OnlyLocksStay
 only-locks-stay service =
-    after-append service (map Key allUpRun) (Empty ∷ Restart ∷ [])
-    ∙ ended (after service (map Key allUpRun))
-    ∙ ap (λ (s : Service). withLine s newLine) (keys-queue service allUpRun tt)
-    ∙ ap (λ (keys : Keys). withLine (withKeys (unqueued service) keys) newLine) (all-up (keysOf service))
+    let set = setIn service in
+    after-append service (map Key (allUpRun set)) (Empty ∷ Restart ∷ [])
+    ∙ ended (after service (map Key (allUpRun set)))
+    ∙ ap (λ (s : Service). withLine (unqueued s) newLine) (run-read service)
+    ∙ ap (λ (s : Service). withLine (withCodes s (unmarkedOf set)) newLine) (keys-queue service (allUpRun One) tt)
+    ∙ ap (λ (keys : Keys). withLine (withCodes (withKeys (unqueued service) keys) (unmarkedOf set)) newLine) (all-up (keysOf service))
 
 -- ---- the lock bits that stand
 
 -- bits 4 to 7 of byte 17 make the locks again, whichever they are
-abbrev with-bits : Bool → Bool → Bool → Bool → Service
-with-bits s n c i = withLocks (record { scroll = s; num = n; caps = c; insert = i })
+abbrev with-bits : Bool → Bool → Bool → Bool → Locks
+with-bits s n c i = record { scroll = s; num = n; caps = c; insert = i }
 
-again : (s n c i : Bool) → remade (with-bits s n c i) ≡ with-bits s n c i
+again : (set : CodeSet) (s n c i : Bool) → locksOf (standingLocks (withLocks set (with-bits s n c i))) ≡ with-bits s n c i
 unfolding model
-again true true true true = refl
-again true true true false = refl
-again true true false true = refl
-again true true false false = refl
-again true false true true = refl
-again true false true false = refl
-again true false false true = refl
-again true false false false = refl
-again false true true true = refl
-again false true true false = refl
-again false true false true = refl
-again false true false false = refl
-again false false true true = refl
-again false false true false = refl
-again false false false true = refl
-again false false false false = refl
+again set true true true true = refl
+again set true true true false = refl
+again set true true false true = refl
+again set true true false false = refl
+again set true false true true = refl
+again set true false true false = refl
+again set true false false true = refl
+again set true false false false = refl
+again set false true true true = refl
+again set false true true false = refl
+again set false true false true = refl
+again set false true false false = refl
+again set false false true true = refl
+again set false false true false = refl
+again set false false false true = refl
+again set false false false false = refl
 
-standing : (locks : Locks) → remade (withLocks locks) ≡ withLocks locks
-standing locks = again (locks .scroll) (locks .num) (locks .caps) (locks .insert)
+standing : (set : CodeSet) (locks : Locks) → remade (withLocks set locks) ≡ withLocks set locks
+unfolding newService
+standing set locks =
+    ap (λ (s : CodeSet). withLocks s (locksOf (standingLocks (withLocks set locks)))) (set-back set)
+    ∙ ap (withLocks set) (again set (locks .scroll) (locks .num) (locks .caps) (locks .insert))
 
 pub resynchronises : Resynchronises
 resynchronises service =
     let e = only-locks-stay service in
-    e ∙ sym (ap remade e ∙ standing (service .shared .locks))
+    e ∙ sym (ap remade e ∙ standing (setIn service) (service .shared .locks))
 
 pub locks-stand : LocksStand
 unfolding byte17Of

@@ -25,16 +25,20 @@ use Rattle.line.specs.Inputs as input
 use Rattle.line.specs.Laws.{Within, sendsBy, Counts, CarriedIn}
 use Rattle.line.proofs.Within.{new-within, kept}
 use Rattle.line.proofs.Counts.{true-counts, sent-most}
+use Rattle.translation.specs.declared.CodeSet.{CodeSet}
+use Rattle.translation.specs.declared.Passed.{Passed}
+use Rattle.translation.specs.declared.Passed.the-variants as passed
+use Rattle.translation.specs.Translation.{translatedOf}
 use Rattle.state.specs.declared.Service.{Service}
 use Rattle.events.specs.declared.Event.{Event}
 use Rattle.events.specs.declared.Event.the-variants.{Key, Call, Poll, TimeOut, Empty, Restart}
 use Rattle.answers.specs.declared.Answer.{Answer}
 use Rattle.answers.specs.declared.Answer.the-variants.{Taken, Done}
 use Rattle.events.specs.declared.Outcome.{Outcome}
-use Rattle.state.specs.State.{newService}
+use Rattle.state.specs.State.{newService, withCodes}
 use Rattle.answers.specs.Answers.{ansOf}
 use Rattle.events.specs.Outcomes.{answeredOf, offeredOf}
-use Rattle.events.specs.Keyboard.{brokenOf, onEffect, typedOf, keyOf}
+use Rattle.events.specs.Keyboard.{brokenOf, onEffect, typedOf, readOf, onPassed, keyOf}
 use Rattle.events.specs.Commands.{ledValue, lineAnswer, onLine, pollOf, acknowledgeOf, resendOf, timeOutOf, restartOf}
 use Rattle.events.specs.Functions.{oldestAnswer, forOldProgram, takeOf, lookOf, statusOf, setRateOf, callOf}
 use Rattle.events.specs.Step.{emptyOf, stepOf}
@@ -148,11 +152,23 @@ typed-right : (service : Service) (byte : ℕ) → Within (service .line) → Ri
 unfolding typedOf
 typed-right service byte w = effect-right service _ (keyByteOf (service .port) (service .shared) byte .effect) refl w
 
+read-right : (service : Service) (byte : ℕ) → Within (service .line) → Right service (readOf service byte)
+unfolding readOf
+read-right service byte w =
+    either (Right service) _ _ _ (acknowledge-right service w)
+    (either (Right service) _ _ _ (resend-right service w) (typed-right service byte w))
+
+passed-right : (service : Service) (p : Passed) → Within (service .line) → Right service (onPassed service p)
+passed-right service passed.Nothing w = answered-right service service _ refl w (record { silent = refl })
+passed-right service (passed.Byte byte) w = read-right service byte w
+
+-- the translation leaves the line
 key-right : (service : Service) (byte : ℕ) → Within (service .line) → Right service (keyOf service byte)
 unfolding keyOf
 key-right service byte w =
-    either (Right service) _ _ _ (acknowledge-right service w)
-    (either (Right service) _ _ _ (resend-right service w) (typed-right service byte w))
+    let translated = translatedOf (service .codes) byte in
+    let r = passed-right (withCodes service (translated .codes)) (translated .passed) w in
+    record { sent = r .sent; most = r .most; carried = r .carried; within = r .within }
 
 take-right : (before service : Service) → service .line .phase ≡ before .line .phase → Within (before .line) → Right before (takeOf service)
 unfolding takeOf
@@ -179,17 +195,17 @@ call-right service function a b w =
 -- ---- every event
 
 -- the count of an event, R's included
-record Counted (service : Service) (event : Event) : Type 0 where
-  count : stepOf service event .sent ≡ countAt (sentOf (service .line)) event (shownOf (stepOf service event))
-  most : stepOf service event .sent ≤ 6
-  carried : carriedOn (next service event .line .phase) (stepOf service event .sent) ≡ sentOf (next service event .line)
-  within : Within (next service event .line)
+pub record Counted (service : Service) (event : Event) : Type 0 where
+  pub count : stepOf service event .sent ≡ countAt (sentOf (service .line)) event (shownOf (stepOf service event))
+  pub most : stepOf service event .sent ≤ 6
+  pub carried : carriedOn (next service event .line .phase) (stepOf service event .sent) ≡ sentOf (next service event .line)
+  pub within : Within (next service event .line)
 
 restart-carries : carriedOn (newLine .phase) 0 ≡ sentOf newLine
 unfolding newLine sentOf sentIn
 restart-carries = refl
 
-step-counted : (service : Service) (event : Event) → Within (service .line) → Counted service event
+pub step-counted : (service : Service) (event : Event) → Within (service .line) → Counted service event
 unfolding stepOf restartOf emptyOf
 step-counted service (Key byte) w = let r = key-right service byte w in record { count = r .sent; most = r .most; carried = r .carried; within = r .within }
 step-counted service (Call function a b) w =
@@ -200,33 +216,43 @@ step-counted service Empty w =
     let r = answered-right service _ Done refl w (record { silent = refl }) in record { count = r .sent; most = r .most; carried = r .carried; within = r .within }
 step-counted service Restart w = record { count = refl; most = lit≤ tt; carried = restart-carries; within = new-within }
 
+-- one event of a list, by the count before it
+pub record CountedOn (service : Service) (earlier : ℕ) (event : Event) : Type 0 where
+  pub count : stepOf service event .sent ≡ countAt earlier event (shownOf (stepOf service event))
+  pub later : sentOf (next service event .line) ≡ carriedOn (next service event .line .phase) (countAt earlier event (shownOf (stepOf service event)))
+  pub within : Within (next service event .line)
+
+pub counted-on : (service : Service) (earlier : ℕ) (event : Event) → Within (service .line) → sentOf (service .line) ≡ earlier → CountedOn service earlier event
+counted-on service earlier event w e =
+    let step = step-counted service event w in
+    let now = step .count ∙ ap (λ (n : ℕ). countAt n event (shownOf (stepOf service event))) e in
+    record { count = now; later = sym (step .carried) ∙ ap (carriedOn (next service event .line .phase)) now; within = step .within }
+
 -- ---- lists
 
 counted : (service : Service) (earlier : ℕ) (events : List Event) → Within (service .line) → sentOf (service .line) ≡ earlier
     → map (λ (s : Shown). s .sent) (run service events) ≡ countsOf service earlier events
 counted service earlier [] w e = refl
 counted service earlier (event ∷ more) w e =
-    let step = step-counted service event w in
+    let step = counted-on service earlier event w e in
     let count = countAt earlier event (shownOf (stepOf service event)) in
-    let now : stepOf service event .sent ≡ count = step .count ∙ ap (λ (n : ℕ). countAt n event (shownOf (stepOf service event))) e in
-    let later = carriedOn (next service event .line .phase) in
-    ap (λ (n : ℕ). n ∷ map (λ (s : Shown). s .sent) (run (next service event) more)) now
-    ∙ ap (λ (l : List ℕ). count ∷ l) (counted (next service event) (later count) more (step .within) (sym (step .carried) ∙ ap later now))
+    ap (λ (n : ℕ). n ∷ map (λ (s : Shown). s .sent) (run (next service event) more)) (step .count)
+    ∙ ap (_∷_ count) (counted (next service event) _ more (step .within) (step .later))
 
 within-after : (service : Service) (events : List Event) → Within (service .line) → Within (after service events .line)
 within-after service [] w = w
 within-after service (event ∷ more) w = within-after (next service event) more (step-counted service event w .within)
 
-within-new : (locks : ℕ) → Within (newService locks .line)
+pub within-new : (set : CodeSet) (locks : ℕ) → Within (newService set locks .line)
 unfolding newService
-within-new locks = new-within
+within-new set locks = new-within
 
 pub three-sends-each : ThreeSendsEach
-three-sends-each locks events = within-after (newService locks) events (within-new locks)
+three-sends-each set locks events = within-after (newService set locks) events (within-new set locks)
 
 pub sent-at-most-six : SentAtMostSix
-sent-at-most-six locks events event = step-counted (after (newService locks) events) event (three-sends-each locks events) .most
+sent-at-most-six set locks events event = step-counted (after (newService set locks) events) event (three-sends-each set locks events) .most
 
 pub sent-is-counted : SentIsCounted
 unfolding newService newLine sentOf sentIn
-sent-is-counted locks events = counted (newService locks) 0 events new-within refl
+sent-is-counted set locks events = counted (newService set locks) 0 events new-within refl

@@ -6,12 +6,13 @@ use mathlib.Core.List.{List, [], _∷_, _++_, map}
 use lib.ListN.{replicate}
 use Rattle.events.specs.declared.Event.{Event}
 use Rattle.events.specs.declared.Event.the-variants.{Key, Poll}
+use Rattle.translation.specs.declared.CodeSet.the-variants.{One}
 use Rattle.state.specs.State.{newService}
 use Rattle.events.specs.Run.{Shown, run}
 
 -- keyboard bytes from lock bits
 abbrev pub typing : ℕ → List ℕ → List Shown
-typing locks bytes = run (newService locks) (map Key bytes)
+typing locks bytes = run (newService One locks) (map Key bytes)
 
 abbrev pub answers : List Shown → List ℕ
 answers shown = map (λ (s : Shown). s .ans) shown
@@ -48,5 +49,5 @@ pub record BenchCases : Type 0 where
   pub alt-sum : words (typing 0 (0x38 ∷ 0x51 ∷ 0x52 ∷ 0x52 ∷ 0xB8 ∷ [])) ≡ 0 ∷ 0 ∷ 0 ∷ 0 ∷ 0x002C ∷ []
   pub ctrl-still-on : flags17 (typing 0 (0x1D ∷ 0xE0 ∷ 0x1D ∷ 0x9D ∷ [])) ≡ 0x04 ∷ 0x04 ∷ 0x04 ∷ 0x04 ∷ []
   pub sixteenth-word : answers (typing 0 (replicate 16 0x39)) ≡ replicate 15 0x01 ++ (0x02 ∷ [])
-  pub given-up : answers (run (newService 0) unansweredPolls) ≡ 0x0C ∷ 0x06 ∷ 0x0C ∷ 0x06 ∷ 0x0C ∷ 0x0E ∷ []
-  pub sent : counts (run (newService 0) unansweredPolls) ≡ 1 ∷ 1 ∷ 2 ∷ 2 ∷ 3 ∷ 3 ∷ []
+  pub given-up : answers (run (newService One 0) unansweredPolls) ≡ 0x0C ∷ 0x06 ∷ 0x0C ∷ 0x06 ∷ 0x0C ∷ 0x0E ∷ []
+  pub sent : counts (run (newService One 0) unansweredPolls) ≡ 1 ∷ 1 ∷ 2 ∷ 2 ∷ 3 ∷ 3 ∷ []

@@ -1,4 +1,4 @@
--- Document 01, "Keyboard bytes": step 1, and what the port's effect does to the queue.
+-- Document 01, "Keyboard bytes": step 1, and what the port's effect does to the queue. Document 02, W-203: what stands before step 1.
 -- Assumes nothing.
 use Prim.Native.Nat.{ℕ}
 use lib.Dec.{eqb}
@@ -9,10 +9,13 @@ use Rattle.port.specs.declared.Effect.{Effect}
 use Rattle.port.specs.declared.Effect.the-variants as effect
 use Rattle.port.specs.KeyByte.{keyByteOf}
 use Rattle.queue.specs.Queue as queue
+use Rattle.translation.specs.declared.Passed.{Passed}
+use Rattle.translation.specs.declared.Passed.the-variants as passed
+use Rattle.translation.specs.Translation.{translatedOf}
 use Rattle.state.specs.declared.Service.{Service}
 use Rattle.answers.specs.declared.Answer.the-variants.{Nothing, Put, Dropped, Break, RestartAsked, Overrun}
 use Rattle.events.specs.declared.Outcome.{Outcome}
-use Rattle.state.specs.State.{withPort, withQueue}
+use Rattle.state.specs.State.{withPort, withQueue, withCodes}
 use Rattle.events.specs.Outcomes.{answeredOf, offeredOf}
 use Rattle.events.specs.Commands.{acknowledgeOf, resendOf}
 
@@ -41,8 +44,18 @@ typedOf service byte =
     onEffect (withPort service (decoded .port) (decoded .shared)) (decoded .effect)
 
 -- step 1: FA and FE are the line's, and touch no prefix
-unfoldable pub keyOf : Service → ℕ → Outcome
-keyOf service byte =
+unfoldable pub readOf : Service → ℕ → Outcome
+readOf service byte =
     if eqb byte 0xFA then acknowledgeOf service
     else if eqb byte 0xFE then resendOf service
     else typedOf service byte
+
+-- before step 1 a byte is translated; a mark has nothing to tell
+abbrev pub onPassed : Service → Passed → Outcome
+onPassed service passed.Nothing = answeredOf service Nothing
+onPassed service (passed.Byte byte) = readOf service byte
+
+unfoldable pub keyOf : Service → ℕ → Outcome
+keyOf service byte =
+    let translated = translatedOf (service .codes) byte in
+    onPassed (withCodes service (translated .codes)) (translated .passed)

@@ -5,8 +5,10 @@ pub mod Functions
 pub mod Commands
 pub mod Step
 pub mod Frames
+pub mod Sets
 pub mod Run
 pub mod Resynchronised
+pub mod SetTwo
 pub mod BenchCases
 pub mod Sent
 pub mod Ranges

@@ -8,6 +8,7 @@ use lib.ListN.{replicate}
 use Rattle.word.specs.declared.Word.{Word}
 use Rattle.word.specs.Word.{isEnhanced, wordFrom}
 use Rattle.queue.specs.Words.{wordsOf, AllEnhanced}
+use Rattle.translation.specs.declared.CodeSet.the-variants.{One}
 use Rattle.state.specs.declared.Service.{Service}
 use Rattle.state.specs.State.{newService, withQueue}
 use Rattle.events.specs.declared.Outcome.{Outcome}
@@ -44,7 +45,7 @@ OldestIsRead = (service : Service) (a b : ℕ) (word : Word) (later : List Word)
 
 -- fifteen F11 fill a queue with enhanced words, and one 01 empties it
 abbrev pub fifteenF11 : Service
-fifteenF11 = after (newService 0) (replicate 15 (Key 0x57))
+fifteenF11 = after (newService One 0) (replicate 15 (Key 0x57))
 
 pub record FifteenEmptied : Type 0 where
   pub full : wordsOf (fifteenF11 .queue) ≡ replicate 15 (wordFrom 0x8500)

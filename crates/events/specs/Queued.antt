@@ -10,6 +10,7 @@ use Rattle.bits.specs.Choice.{if_then_else_}
 use Rattle.word.specs.declared.Word.{Word}
 use Rattle.queue.specs.Queue.{capacity}
 use Rattle.queue.specs.Words.{wordsOf, restIn, pastEnhancedIn}
+use Rattle.translation.specs.declared.CodeSet.{CodeSet}
 use Rattle.state.specs.declared.Service.{Service}
 use Rattle.events.specs.declared.Event.{Event}
 use Rattle.events.specs.declared.Event.the-variants.{Key, Call, Poll, TimeOut, Empty, Restart}
@@ -99,8 +100,9 @@ pub record Listed (service : Service) (event : Event) : Type 0 where
 
 -- so it is at every event of every list from a new service
 abbrev pub QueueAsListed : Type 0
-QueueAsListed = (locks : ℕ) (events : List Event) (event : Event) → Listed (after (newService locks) events) event
+QueueAsListed = (set : CodeSet) (locks : ℕ) (events : List Event) (event : Event) → Listed (after (newService set locks) events) event
 
 -- and no list brings more than 15 words
 abbrev pub QueueAtMostCapacity : Type 0
-QueueAtMostCapacity = (locks : ℕ) (events : List Event) → length (wordsOf (after (newService locks) events .queue)) ≤ capacity
+QueueAtMostCapacity =
+    (set : CodeSet) (locks : ℕ) (events : List Event) → length (wordsOf (after (newService set locks) events .queue)) ≤ capacity

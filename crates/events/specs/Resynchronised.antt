@@ -1,8 +1,12 @@
--- The all-up run, E and R, and the service that they leave. Demand 3 rests on it; crate `lists` states it whole.
+-- The all-up run of either set, E and R, and the service that they leave. Demand 3 rests on it; crate `lists` states it whole.
 -- Assumes nothing.
 use Prim.Native.Nat.{ℕ, _/_}
 use mathlib.Core.Path.{_≡_}
 use mathlib.Core.List.{List, [], _∷_, _++_, map}
+use Rattle.translation.specs.declared.CodeSet.{CodeSet}
+use Rattle.translation.specs.declared.CodeSet.the-variants.{One, Two}
+use Rattle.translation.specs.declared.Codes.{Codes}
+use Rattle.translation.specs.Translation.{unmarkedOf, setOf, translation, codesAfter}
 use Rattle.state.specs.declared.Service.{Service}
 use Rattle.events.specs.declared.Event.{Event}
 use Rattle.events.specs.declared.Event.the-variants.{Key, Empty, Restart}
@@ -10,31 +14,47 @@ use Rattle.state.specs.State.{withLocks, newService}
 use Rattle.state.specs.Flags.{byte17Of}
 use Rattle.events.specs.Run.{after}
 
--- "The all-up run" of document 01, byte by byte
-abbrev pub allUpRun : List ℕ
-allUpRun =
+-- "The all-up run" of document 01, byte by byte, and that of document 02, W-203, for set 2
+abbrev pub allUpRun : CodeSet → List ℕ
+allUpRun One =
     0xB9 ∷ 0xAA ∷ 0xB6 ∷ 0x9D ∷ 0xE0 ∷ 0x9D ∷ 0xB8 ∷ 0xE0 ∷ 0xB8 ∷ 0xBA ∷ 0xC5 ∷ 0xC6 ∷ 0xD2 ∷ 0xD4 ∷ 0x39 ∷ 0xB9 ∷ []
+allUpRun Two =
+    0xF0 ∷ 0x29 ∷ 0xF0 ∷ 0x12 ∷ 0xF0 ∷ 0x59 ∷ 0xF0 ∷ 0x14 ∷ 0xE0 ∷ 0xF0 ∷ 0x14 ∷ 0xF0 ∷ 0x11 ∷ 0xE0 ∷ 0xF0 ∷ 0x11 ∷
+    0xF0 ∷ 0x58 ∷ 0xF0 ∷ 0x77 ∷ 0xF0 ∷ 0x7E ∷ 0xF0 ∷ 0x70 ∷ 0xF0 ∷ 0x84 ∷ 0x29 ∷ 0xF0 ∷ 0x29 ∷ []
 
--- the all-up run, each byte as a K event, one E and one R
-abbrev pub resynchronisation : List Event
-resynchronisation = map Key allUpRun ++ (Empty ∷ Restart ∷ [])
+-- the all-up run of a set, each byte as a K event, one E and one R
+abbrev pub resynchronisation : CodeSet → List Event
+resynchronisation set = map Key (allUpRun set) ++ (Empty ∷ Restart ∷ [])
+
+-- the set in force
+abbrev pub setIn : Service → CodeSet
+setIn service = setOf (service .codes)
 
 -- the lock bits that stand: bits 4 to 7 of byte 17
 abbrev pub standingLocks : Service → ℕ
 standingLocks service = byte17Of service / 16
 
--- the service newly made with the lock bits that stand in another
+-- the service newly made on the set in force in another, with the lock bits that stand there
 abbrev pub remade : Service → Service
-remade service = newService (standingLocks service)
+remade service = newService (setIn service) (standingLocks service)
 
--- on every service, reached or not, they leave the locks as they are and all else as new
+-- from every mark the run of the set comes out as the run of set 1, byte for byte, and leaves no mark
+pub record Translates (codes : Codes) : Type 0 where
+  pub bytes : translation codes (allUpRun (setOf codes)) ≡ allUpRun One
+  pub codes-left : codesAfter codes (allUpRun (setOf codes)) ≡ unmarkedOf (setOf codes)
+
+abbrev pub RunTranslates : Type 0
+RunTranslates = (codes : Codes) → Translates codes
+
+-- on every service, reached or not, the run of its set, E and R leave the locks and the set as they are and all else as new
 abbrev pub OnlyLocksStay : Type 0
-OnlyLocksStay = (service : Service) → after service resynchronisation ≡ withLocks (service .shared .locks)
+OnlyLocksStay =
+    (service : Service) → after service (resynchronisation (setIn service)) ≡ withLocks (setIn service) (service .shared .locks)
 
--- so that what they leave is a service newly made, with the lock bits that stand then
+-- so that what they leave is a service newly made on that set, with the lock bits that stand then
 abbrev pub Resynchronises : Type 0
-Resynchronises = (service : Service) → let settled = after service resynchronisation in settled ≡ remade settled
+Resynchronises = (service : Service) → let settled = after service (resynchronisation (setIn service)) in settled ≡ remade settled
 
 -- and these are the bits that stood before
 abbrev pub LocksStand : Type 0
-LocksStand = (service : Service) → standingLocks (after service resynchronisation) ≡ standingLocks service
+LocksStand = (service : Service) → standingLocks (after service (resynchronisation (setIn service))) ≡ standingLocks service

@@ -8,6 +8,7 @@ use Rattle.bits.specs.Choice.{if_then_else_}
 use Rattle.line.specs.declared.Phase.{Phase}
 use Rattle.line.specs.declared.Phase.the-variants.{Idle, Awaiting, Ready}
 use Rattle.line.specs.Laws.{Within}
+use Rattle.translation.specs.declared.CodeSet.{CodeSet}
 use Rattle.state.specs.declared.Service.{Service}
 use Rattle.events.specs.declared.Event.{Event}
 use Rattle.events.specs.declared.Event.the-variants.{Key, Call, Poll, TimeOut, Empty, Restart}
@@ -44,12 +45,14 @@ countsOf service earlier (event ∷ more) =
 -- over every list from a new service, sent is that count
 abbrev pub SentIsCounted : Type 0
 SentIsCounted =
-    (locks : ℕ) (events : List Event) → map (λ (s : Shown). s .sent) (run (newService locks) events) ≡ countsOf (newService locks) 0 events
+    (set : CodeSet) (locks : ℕ) (events : List Event) →
+    map (λ (s : Shown). s .sent) (run (newService set locks) events) ≡ countsOf (newService set locks) 0 events
 
 -- it is at most six at every event
 abbrev pub SentAtMostSix : Type 0
-SentAtMostSix = (locks : ℕ) (events : List Event) (event : Event) → stepOf (after (newService locks) events) event .sent ≤ 6
+SentAtMostSix =
+    (set : CodeSet) (locks : ℕ) (events : List Event) (event : Event) → stepOf (after (newService set locks) events) event .sent ≤ 6
 
 -- and no byte is sent more than three times: `Within` of the line counts the sends of the byte under way
 abbrev pub ThreeSendsEach : Type 0
-ThreeSendsEach = (locks : ℕ) (events : List Event) → Within (after (newService locks) events .line)
+ThreeSendsEach = (set : CodeSet) (locks : ℕ) (events : List Event) → Within (after (newService set locks) events .line)

@@ -1,13 +1,14 @@
-// A byte from the keyboard: a reply for the line, or a key for the port, whose effect then reaches the queue.
+// A byte from the keyboard: translated first, then a reply for the line, or a key for the port, whose effect reaches the queue.
 ghost use mathlib.Core.Path.{_≡_};
 ghost use Rattle.state.specs.State.{withPort};
-ghost use Rattle.events.specs.Keyboard.{putOf, brokenOf, onEffect, typedOf, keyOf};
+ghost use Rattle.events.specs.Keyboard.{putOf, brokenOf, onEffect, typedOf, readOf, keyOf};
 use answers::Answer;
 use events::Outcome;
 use port::Effect;
 use port::Port;
 use port::Shared;
 use state::Service;
+use translation::Passed;
 use word::Word;
 
 fn with_port(service: Service, port: Port, shared: Shared) -> Service
@@ -15,11 +16,13 @@ fn with_port(service: Service, port: Port, shared: Shared) -> Service
 {
     let queue = service.queue;
     let line = service.line;
+    let codes = service.codes;
     Service {
         port,
         shared,
         queue,
         line,
+        codes,
     }
 }
 
@@ -67,8 +70,8 @@ fn typed(service: Service, byte: u8) -> Outcome
 }
 
 // Step 1 before the others: FA and FE are the line's and touch no prefix.
-pub fn key(service: Service, byte: u8) -> Outcome
-    ensures { λ r. ⌜ r ≡ keyOf service byte ⌝ }
+fn read(service: Service, byte: u8) -> Outcome
+    ensures { λ r. ⌜ r ≡ readOf service byte ⌝ }
 {
     if byte == 0xFA {
         return events_commands::acknowledge(service);
@@ -77,4 +80,19 @@ pub fn key(service: Service, byte: u8) -> Outcome
         return events_commands::resend(service);
     }
     typed(service, byte)
+}
+
+// The translation before step 1. A mark is kept in the codes and has nothing to tell.
+pub fn key(service: Service, byte: u8) -> Outcome
+    ensures { λ r. ⌜ r ≡ keyOf service byte ⌝ }
+{
+    let codes = service.codes;
+    let translated = translation::translate(codes, byte);
+    let later = translated.codes;
+    let passed = translated.passed;
+    let next = state::with_codes(service, later);
+    match passed {
+        Passed::Nothing => events_outcomes::answered(next, Answer::Nothing),
+        Passed::Byte(byte) => read(next, byte),
+    }
 }

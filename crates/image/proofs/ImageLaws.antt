@@ -33,13 +33,16 @@ use Rattle.line.specs.declared.Line.{Line}
 use Rattle.line.specs.State.{ledRunsOf, ledRunsIn, newLine}
 use Rattle.line.specs.Byte97.{byte97Of}
 use Rattle.line.specs.Ranges.{ledValues, rateValues, valuesOf, SettingBelow, CommandInRange, PhaseInRange, LineInRange}
+use Rattle.translation.specs.declared.CodeSet.{CodeSet}
+use Rattle.translation.specs.declared.Codes.{Codes}
+use Rattle.translation.specs.declared.Codes.the-variants.{SetOne, SetTwo, SetTwoMarked}
 use Rattle.state.specs.declared.Service.{Service}
 use Rattle.state.specs.State.{locksOf, newService}
 use Rattle.state.specs.Flags.{e0Open, e1Open, byte17Of, byte18Of, byte96Of, byte97Of as shown97}
 use Rattle.image.specs.declared.CommandImage.{CommandImage}
 use Rattle.image.specs.declared.LineImage.{LineImage}
 use Rattle.image.specs.declared.QueueImage.{QueueImage}
-use Rattle.image.specs.ImageFlags.{flagBytesOf, modifiersAt, heldAt, sharedAt, prefixNumber, prefixAt}
+use Rattle.image.specs.ImageFlags.{flagBytesOf, modifiersAt, heldAt, sharedAt, prefixNumber, prefixAt, codesNumber, inputNumber, codesAt}
 use Rattle.image.specs.ImageQueue.{wordImage, wordAtImage, headAt, queueImage, queueAt}
 use Rattle.image.specs.ImageLine.{flagOf, isSet, kindNumber, kindAt, settingImage, settingAt, valueIn, commandImage, commandAt, phaseImage, phaseAt, marksAt, lineImage, lineAt}
 use Rattle.image.specs.Image.{imageOf, portAt, serviceOf, newImage}
@@ -49,13 +52,26 @@ flag-back : (bit : Bool) → isSet (flagOf bit) ≡ bit
 flag-back true = refl
 flag-back false = refl
 
-prefix-back : (prefix : Prefix) → prefixAt (prefixNumber prefix) ≡ prefix
+-- the halves of a byte, each as it was put in
+pub lower-back : (prefix : ℕ) (codes : Codes) → inputNumber prefix codes % 16 ≡ prefix % 16
+lower-back prefix codes = omega arith
+
+pub upper-back : (prefix : ℕ) (codes : Codes) → inputNumber prefix codes / 16 ≡ codesNumber codes
+upper-back prefix codes = omega arith
+
+prefix-back : (prefix : Prefix) → prefixAt (prefixNumber prefix % 16) ≡ prefix
 unfolding prefixAt if_then_else_
 prefix-back Closed = refl
 prefix-back E0 = refl
 prefix-back E1 = refl
 prefix-back E1Make = refl
 prefix-back E1Break = refl
+
+pub codes-back : (codes : Codes) → codesAt (codesNumber codes) ≡ codes
+unfolding codesAt if_then_else_
+codes-back SetOne = refl
+codes-back SetTwo = refl
+codes-back SetTwoMarked = refl
 
 -- the bits of three flag bytes, each as it was put in
 module _ (service : Service) where
@@ -208,16 +224,16 @@ its-line-back service = line-back (service .line)
 pub comes-back : ComesBack
 unfolding serviceOf imageOf portAt
 comes-back service h =
-    simp (prefix-back, modifiers-back service, held-back service, shared-back service, queue-back (service .queue) (h .queue), its-line-back service (h .line))
+    simp (lower-back, upper-back, prefix-back, codes-back, modifiers-back service, held-back service, shared-back service, queue-back (service .queue) (h .queue), its-line-back service (h .line))
 
 none-set : byteOf false false false false false false false false ≡ 0
 unfolding byteOf weightOf if_then_else_
 none-set = refl
 
-line-clear : (bits : ℕ) → shown97 (newService bits) ≡ 0
+line-clear : (set : CodeSet) (bits : ℕ) → shown97 (newService set bits) ≡ 0
 unfolding shown97 byte97Of ledRunsOf ledRunsIn newService newLine byteOf weightOf if_then_else_
-line-clear bits = refl
+line-clear set bits = refl
 
 pub made-anew : MadeAnew
 unfolding imageOf newImage byte17Of byte18Of byte96Of queueImage lineImage newService locksOf emptyQueue newLine
-made-anew bits = simp (lower-half-raised, none-set, line-clear)
+made-anew set bits = simp (lower-half-raised, none-set, line-clear)

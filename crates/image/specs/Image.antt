@@ -1,12 +1,14 @@
 -- The service as numbers only, for callers that know no enum, and the service that any such numbers mean.
 -- Assumes nothing.
-use Prim.Native.Nat.{ℕ, _*_, _%_}
+use Prim.Native.Nat.{ℕ, _*_, _/_, _%_}
 use lib.ListN.{replicate}
 use Rattle.port.specs.declared.Port.{Port}
 use Rattle.queue.specs.Queue.{arrayLength}
+use Rattle.translation.specs.declared.CodeSet.{CodeSet}
+use Rattle.translation.specs.Translation.{unmarkedOf}
 use Rattle.state.specs.declared.Service.{Service}
 use Rattle.image.specs.declared.Image.{Image}
-use Rattle.image.specs.ImageFlags.{flagBytesOf, modifiersAt, heldAt, sharedAt, prefixNumber, prefixAt}
+use Rattle.image.specs.ImageFlags.{flagBytesOf, modifiersAt, heldAt, sharedAt, prefixNumber, prefixAt, inputNumber, codesAt}
 use Rattle.image.specs.ImageQueue.{queueImage, queueAt}
 use Rattle.image.specs.ImageLine.{lineImage, lineAt}
 
@@ -14,7 +16,7 @@ unfoldable pub imageOf : Service → Image
 imageOf service =
     record {
       flags = flagBytesOf service;
-      prefix = prefixNumber (service .port .prefix);
+      input = inputNumber (prefixNumber (service .port .prefix)) (service .codes);
       sum = service .port .sum;
       line = lineImage (service .line);
       queue = queueImage (service .queue);
@@ -23,7 +25,7 @@ imageOf service =
 unfoldable pub portAt : Image → Port
 portAt image =
     record {
-      prefix = prefixAt (image .prefix);
+      prefix = prefixAt (image .input % 16);
       modifiers = modifiersAt (image .flags);
       held = heldAt (image .flags .byte18);
       sum = image .sum;
@@ -36,14 +38,15 @@ serviceOf image =
       shared = sharedAt (image .flags);
       queue = queueAt (image .queue);
       line = lineAt (image .line) (image .flags .byte97);
+      codes = codesAt (image .input / 16);
     }
 
--- a service newly made with lock bits, of which the last four count
-unfoldable pub newImage : ℕ → Image
-newImage bits =
+-- a service newly made on a set with lock bits, of which the last four count
+unfoldable pub newImage : CodeSet → ℕ → Image
+newImage set bits =
     record {
       flags = record { byte17 = 16 * (bits % 16); byte18 = 0; byte96 = 0; byte97 = 0 };
-      prefix = 0;
+      input = inputNumber 0 (unmarkedOf set);
       sum = 0;
       line =
           record {
@@ -52,4 +55,15 @@ newImage bits =
             command = record { phase = 0; kind = 0; value = 0; operand = 0; sends = 0; sent = 0 };
           };
       queue = record { words = replicate arrayLength (record { scan = 0; ascii = 0 }); head = 0; count = 0 };
+    }
+
+-- the image with the codes of a set, unmarked
+unfoldable pub onSet : CodeSet → Image → Image
+onSet set image =
+    record {
+      flags = image .flags;
+      input = inputNumber (image .input) (unmarkedOf set);
+      sum = image .sum;
+      line = image .line;
+      queue = image .queue;
     }

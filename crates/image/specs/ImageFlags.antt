@@ -1,6 +1,6 @@
--- The flag bytes of a service, and the modifiers, held bits, locks and pause that any such bytes mean; prefixes as numbers.
+-- The flag bytes of a service, and the modifiers, held bits, locks and pause that any such bytes mean; prefixes and codes as numbers.
 -- Assumes nothing.
-use Prim.Native.Nat.{ℕ, _/_}
+use Prim.Native.Nat.{ℕ, _+_, _*_, _/_, _%_}
 use lib.Dec.{eqb}
 use Rattle.bits.specs.Choice.{if_then_else_}
 use Rattle.bits.specs.Bits.{bit0, bit1, bit2, bit3, bit4, bit5, bit6, bit7}
@@ -9,6 +9,8 @@ use Rattle.port.specs.declared.Prefix.the-variants.{Closed, E0, E1, E1Make, E1B
 use Rattle.port.specs.declared.Modifiers.{Modifiers}
 use Rattle.port.specs.declared.Held.{Held}
 use Rattle.port.specs.declared.Shared.{Shared}
+use Rattle.translation.specs.declared.Codes.{Codes}
+use Rattle.translation.specs.declared.Codes.the-variants.{SetOne, SetTwo, SetTwoMarked}
 use Rattle.state.specs.declared.Service.{Service}
 use Rattle.state.specs.State.{locksOf}
 use Rattle.state.specs.Flags.{byte17Of, byte18Of, byte96Of, byte97Of}
@@ -56,3 +58,19 @@ prefixAt number =
     else if eqb number 3 then E1Make
     else if eqb number 4 then E1Break
     else Closed
+
+abbrev pub codesNumber : Codes → ℕ
+codesNumber SetOne = 0
+codesNumber SetTwo = 1
+codesNumber SetTwoMarked = 2
+
+-- both in one byte: the prefix is its lower half, the codes are its upper half
+abbrev pub inputNumber : ℕ → Codes → ℕ
+inputNumber prefix codes = prefix % 16 + 16 * codesNumber codes
+
+-- any other number is set 1
+unfoldable pub codesAt : ℕ → Codes
+codesAt number =
+    if eqb number 1 then SetTwo
+    else if eqb number 2 then SetTwoMarked
+    else SetOne

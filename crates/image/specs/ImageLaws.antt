@@ -2,6 +2,7 @@
 -- Assumes nothing.
 use Prim.Native.Nat.{ℕ}
 use mathlib.Core.Path.{_≡_}
+use Rattle.translation.specs.declared.CodeSet.{CodeSet}
 use Rattle.state.specs.declared.Service.{Service}
 use Rattle.state.specs.State.{newService}
 use Rattle.state.specs.Ranges.{InRange}
@@ -16,6 +17,6 @@ ReadsInRange = (image : Image) → InRange (serviceOf image)
 abbrev pub ComesBack : Type 0
 ComesBack = (service : Service) → InRange service → serviceOf (imageOf service) ≡ service
 
--- a service newly made has the image that its lock bits give; with none of them on, that is memory that holds zeros
+-- a service newly made has the image that its set and lock bits give; on set 1 with no lock on, that is memory that holds zeros
 abbrev pub MadeAnew : Type 0
-MadeAnew = (bits : ℕ) → imageOf (newService bits) ≡ newImage bits
+MadeAnew = (set : CodeSet) (bits : ℕ) → imageOf (newService set bits) ≡ newImage set bits

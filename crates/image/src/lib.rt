@@ -1,5 +1,5 @@
 // The service as numbers only, laid out as C lays out structs, for callers that know no enum: the types, what any such numbers mean, and what
-// holds of them. An image of zeros is a service newly made with no lock on. The code is in `image_conversion`.
+// holds of them. An image of zeros is a service newly made on set 1 with no lock on. The code is in `image_conversion`.
 
 // The flag bytes as the BIOS data area has them. Read from an image, they are the service's modifiers, held bits, locks, pause and marks; the
 // bits that follow from others (either Ctrl, either Alt, an open prefix, a LED command that runs) and those that have no meaning are not read.
@@ -51,12 +51,13 @@ pub struct QueueImage {
     pub count: usize,
 }
 
-// `prefix` is 0 for none, 1 for E0, 2 for E1, 3 for E1 1D, 4 for E1 9D; any other number is read as none. `sum` is the Alt sum.
-// 64 bytes, none of them padding.
+// `input` says how the next keyboard byte is read. Its lower half is the open prefix: 0 for none, 1 for E0, 2 for E1, 3 for E1 1D, 4 for E1 9D, and
+// any other number is read as none. Its upper half is the codes that come: 0 for set 1, 1 for set 2, 2 for set 2 with the next code marked as a
+// break, and any other number is read as set 1. `sum` is the Alt sum. 64 bytes, none of them padding.
 #[repr(C)]
 pub struct Image {
     pub flags: FlagBytes,
-    pub prefix: u8,
+    pub input: u8,
     pub sum: u8,
     pub line: LineImage,
     pub queue: QueueImage,

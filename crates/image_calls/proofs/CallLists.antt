@@ -14,21 +14,24 @@ use Rattle.frame.specs.declared.Fault.the-variants.{Start, Parity, Stop}
 use Rattle.frame.specs.declared.Reading.{Reading}
 use Rattle.frame.specs.declared.Reading.the-variants as reading
 use Rattle.frame.specs.Frame.{readFrame, faultNumber}
+use Rattle.translation.specs.declared.CodeSet.{CodeSet}
 use Rattle.state.specs.declared.Service.{Service}
 use Rattle.state.specs.State.{newService, makeOf}
 use Rattle.state.specs.Flags.{byte17Of}
 use Rattle.events.specs.declared.Event.{Event}
 use Rattle.events.specs.declared.Event.the-variants.{Key}
 use Rattle.events.specs.declared.Outcome.{Outcome}
+use Rattle.events.specs.Outcomes.{answeredOf}
 use Rattle.events.specs.Step.{stepOf}
+use Rattle.events.specs.Sets.{changeOf}
 use Rattle.events.specs.Run.{Shown, next}
-use Rattle.events.specs.Resynchronised.{standingLocks, remade}
+use Rattle.events.specs.Resynchronised.{setIn, standingLocks, remade}
 use Rattle.events.proofs.RefusedCalls.{refused-step}
 use Rattle.events.proofs.Ranges.{stays-in-range}
 use Rattle.report.specs.declared.Reported.{Reported}
 use Rattle.report.specs.Report.{reportOf}
 use Rattle.report.specs.Reported.{tooShort, reportedOf}
-use Rattle.lists.specs.Items.{Item, runs, reports, receives, Seen, Stepped, answered, stepItem, afterItems, seenItems, shownIn}
+use Rattle.lists.specs.Items.{Item, runs, reports, receives, changes, Seen, Stepped, answered, stepItem, afterItems, seenItems, shownIn}
 use Rattle.lists.specs.ItemLaws.{refusedFrameStep}
 use Rattle.lists.proofs.ItemLaws.{accepted-is-key, refused-runs-nothing}
 use Rattle.lists.proofs.EventLaws.{sent-over-items}
@@ -38,7 +41,7 @@ use Rattle.image.specs.Image.{imageOf, serviceOf}
 use Rattle.image.proofs.ImageLaws.{reads-in-range, comes-back}
 use Rattle.image_calls.specs.declared.Changed.{Changed}
 use Rattle.image_calls.specs.declared.Refused.{Refused}
-use Rattle.image_calls.specs.Exports.{shownToC, stepIn, refusedIn, framedIn, triedIn, makeTo}
+use Rattle.image_calls.specs.Exports.{shownToC, stepIn, refusedIn, framedIn, triedIn, makeTo, changeTo}
 use Rattle.image_calls.specs.CallLists.{Called, answeredBy, callOn, afterCalls, seenCalls, Follows, ImagesFollow, made, ImagesForget, ImagesCount}
 use Rattle.image_calls.proofs.Events.{step-shows, tried-by}
 use Rattle.image_calls.proofs.ExportLaws.{tags-recognised}
@@ -93,6 +96,11 @@ frame-alike : (image : Image) (frame : ℕ) (read : Reading) → readFrame frame
 frame-alike image frame (reading.Byte byte) is = rw (accepted-is-key (serviceOf image) frame byte is) (event-alike image (Key byte))
 frame-alike image frame (reading.Refused fault) is = rw (refused-runs-nothing (serviceOf image) frame fault is) (refused-alike image fault)
 
+change-alike : (image : Image) (set : CodeSet) → Alike (stepItem (serviceOf image) (changes set)) (answeredBy (changeTo set image))
+unfolding stepItem changeOf answeredOf shownToC if_then_else_
+change-alike image set =
+    record { leaves = comes-back _ (stays-in-range .change (serviceOf image) set (reads-in-range image)); shows = refl }
+
 alike : (image : Image) (item : Item) → Alike (stepItem (serviceOf image) item) (callOn image item)
 unfolding stepItem
 alike image (runs event) = rw (tags-recognised event) (event-alike image event)
@@ -101,6 +109,7 @@ alike image (reports event buffer) =
     rw (tags-recognised event)
     (record { leaves = report-leaves image event buffer; shows = rw (report-refuses image (told .refusal) (told .service), step-shows image event) })
 alike image (receives frame) = frame-alike image frame (readFrame frame) refl
+alike image (changes set) = change-alike image set
 
 -- ---- lists
 
@@ -119,43 +128,44 @@ images-follow image (item ∷ more) =
 
 -- ---- from xiquepazo_make on
 
-made-image : (image : Image) (locks : ℕ) → locks ≤ 15 → made image locks ≡ imageOf (newService locks)
+made-image : (set : CodeSet) (image : Image) (locks : ℕ) → locks ≤ 15 → made set image locks ≡ imageOf (newService set locks)
 unfolding makeOf triedIn if_then_else_
-made-image image locks most =
-    let e : makeTo image locks ≡ record { image = imageOf (newService locks); refusal = 0 } = simp (le-ltb _ _ most) in
+made-image set image locks most =
+    let e : makeTo set image locks ≡ record { image = imageOf (newService set locks); refusal = 0 } = simp (le-ltb _ _ most) in
     ap (λ (refused : Refused). refused .image) e
 
-new-back : (locks : ℕ) → serviceOf (imageOf (newService locks)) ≡ newService locks
-new-back locks = comes-back (newService locks) (stays-in-range .new locks)
+new-back : (set : CodeSet) (locks : ℕ) → serviceOf (imageOf (newService set locks)) ≡ newService set locks
+new-back set locks = comes-back (newService set locks) (stays-in-range .new set locks)
 
-made-new : (image : Image) (locks : ℕ) → locks ≤ 15 → serviceOf (made image locks) ≡ newService locks
-made-new image locks most = ap serviceOf (made-image image locks most) ∙ new-back locks
+made-new : (set : CodeSet) (image : Image) (locks : ℕ) → locks ≤ 15 → serviceOf (made set image locks) ≡ newService set locks
+made-new set image locks most = ap serviceOf (made-image set image locks most) ∙ new-back set locks
 
 locks-most : (service : Service) → standingLocks service ≤ 15
 unfolding byte17Of
 locks-most service = let most : byte17Of service ≤ 255 = byte-most _ _ _ _ _ _ _ _ in omega arith
 
-module _ (image : Image) (locks : ℕ) (most : locks ≤ 15) where
+module _ (set : CodeSet) (image : Image) (locks : ℕ) (most : locks ≤ 15) where
   -- the image after calls is one of the service after them
-  after-made : (items : List Item) → serviceOf (afterCalls (made image locks) items) ≡ afterItems (newService locks) items
-  after-made items = images-follow (made image locks) items .last ∙ ap (λ (s : Service). afterItems s items) (made-new image locks most)
+  after-made : (items : List Item) → serviceOf (afterCalls (made set image locks) items) ≡ afterItems (newService set locks) items
+  after-made items = images-follow (made set image locks) items .last ∙ ap (λ (s : Service). afterItems s items) (made-new set image locks most)
 
-  seen-made : (items : List Item) → seenCalls (made image locks) items ≡ seenItems (newService locks) items
-  seen-made items = images-follow (made image locks) items .shown ∙ ap (λ (s : Service). seenItems s items) (made-new image locks most)
+  seen-made : (items : List Item) → seenCalls (made set image locks) items ≡ seenItems (newService set locks) items
+  seen-made items = images-follow (made set image locks) items .shown ∙ ap (λ (s : Service). seenItems s items) (made-new set image locks most)
 
 pub images-forget : ImagesForget
-images-forget image other locks most first settling further ran =
-    let settled = afterCalls (made image locks) (first ++ settling) in
-    let service = afterItems (newService locks) (first ++ settling) in
-    let is : serviceOf settled ≡ service = after-made image locks most (first ++ settling) in
+images-forget image other set locks most first settling further ran =
+    let settled = afterCalls (made set image locks) (first ++ settling) in
+    let service = afterItems (newService set locks) (first ++ settling) in
+    let is : serviceOf settled ≡ service = after-made set image locks most (first ++ settling) in
     let alike : seenItems service further ≡ seenItems (remade service) further =
-    demand-3 locks most first settling further (rw (after-made image locks most first) at ran) in
+    demand-3 set locks most first settling further (rw (after-made set image locks most first) at ran) in
     images-follow settled further .shown
     ∙ ap (λ (s : Service). seenItems s further) is
     ∙ alike
     ∙ ap (λ (s : Service). seenItems (remade s) further) (sym is)
-    ∙ sym (seen-made other (standingLocks (serviceOf settled)) (locks-most (serviceOf settled)) further)
+    ∙ sym (seen-made (setIn (serviceOf settled)) other (standingLocks (serviceOf settled)) (locks-most (serviceOf settled)) further)
 
 pub images-count : ImagesCount
-images-count image locks most items =
-    ap (λ (seen : List Seen). map (λ (s : Shown). s .sent) (shownIn seen)) (seen-made image locks most items) ∙ sent-over-items .counted locks items
+images-count image set locks most items =
+    ap (λ (seen : List Seen). map (λ (s : Shown). s .sent) (shownIn seen)) (seen-made set image locks most items)
+    ∙ sent-over-items .counted set locks items

@@ -13,6 +13,7 @@ use Rattle.bits.proofs.Choice.{by-test}
 use Rattle.frame.specs.declared.Reading.{Reading}
 use Rattle.frame.specs.declared.Reading.the-variants as reading
 use Rattle.frame.specs.Frame.{readFrame}
+use Rattle.translation.specs.declared.CodeSet.{CodeSet}
 use Rattle.state.specs.declared.Service.{Service}
 use Rattle.events.specs.declared.Event.{Event}
 use Rattle.events.specs.declared.Event.the-variants.{Key, Call, Poll, TimeOut, Empty, Restart}
@@ -72,9 +73,9 @@ short-leaves : (image : Image) (event : Recognised) (buffer : List ℕ) → leng
 short-leaves image recognised-as.Unknown buffer short = refl
 short-leaves image (recognised-as.Event event) buffer short = short-refused (serviceOf image) event buffer short .unwritten
 
-make-leaves : (image : Image) (bits : ℕ) → 15 < bits → makeTo image bits ≡ record { image = image; refusal = 1 }
+make-leaves : (set : CodeSet) (image : Image) (bits : ℕ) → 15 < bits → makeTo set image bits ≡ record { image = image; refusal = 1 }
 unfolding makeOf triedIn if_then_else_
-make-leaves image bits above = simp (lt-ltb _ _ above)
+make-leaves set image bits above = simp (lt-ltb _ _ above)
 
 pub leaves : Leaves
 leaves = record {

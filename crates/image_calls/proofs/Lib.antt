@@ -3,3 +3,4 @@ pub mod Readings
 pub mod ExportLaws
 pub mod CallLists
 pub mod Remade
+pub mod Changes

@@ -1,18 +1,18 @@
--- Lists of calls on an image that C keeps, events, reported events and frames in any order. CallLists.antt of proofs/ proves each sentence.
+-- Lists of calls on an image that C keeps, events, reported events, frames and changes of set in any order. CallLists.antt of proofs/ proves each sentence.
 -- Assumes nothing.
 use Prim.Native.Nat.{ℕ, _/_, _≤_}
 use mathlib.Core.Path.{_≡_}
 use mathlib.Core.List.{List, [], _∷_, _++_, map}
+use Rattle.translation.specs.declared.CodeSet.{CodeSet}
 use Rattle.state.specs.State.{newService}
 use Rattle.events.specs.Run.{Shown}
-use Rattle.events.specs.Resynchronised.{resynchronisation}
-use Rattle.events.specs.Sent.{countsOf}
-use Rattle.lists.specs.Items.{Item, runs, reports, receives, Seen, answered, whereRan, afterItems, ranItems, seenItems, shownIn}
-use Rattle.lists.specs.EventLaws.{ranEvents}
+use Rattle.events.specs.Resynchronised.{resynchronisation, setIn}
+use Rattle.lists.specs.Items.{Item, runs, reports, receives, changes, Seen, answered, whereRan, afterItems, ranItems, seenItems, shownIn}
+use Rattle.lists.specs.EventLaws.{ranOf, countsOver}
 use Rattle.image.specs.declared.Image.{Image}
 use Rattle.image.specs.Image.{serviceOf}
 use Rattle.image_calls.specs.declared.Changed.{Changed}
-use Rattle.image_calls.specs.Exports.{seen, written, eventTo, frameTo, makeTo, reportTo, writtenTo, flagsTo}
+use Rattle.image_calls.specs.Exports.{seen, written, eventTo, frameTo, makeTo, changeTo, reportTo, writtenTo, flagsTo}
 
 -- an item of a list as the call for C that it is: what the image is after it, and what is seen
 pub record Called : Type 0 where
@@ -36,6 +36,7 @@ callOn image (reports event buffer) =
           };
     }
 callOn image (receives frame) = answeredBy (frameTo image frame)
+callOn image (changes set) = answeredBy (changeTo set image)
 
 abbrev pub afterCalls : Image → List Item → Image
 afterCalls image [] = image
@@ -54,22 +55,27 @@ pub record Follows (image : Image) (items : List Item) : Type 0 where
 abbrev pub ImagesFollow : Type 0
 ImagesFollow = (image : Image) (items : List Item) → Follows image items
 
--- an image after xiquepazo_make, whatever it was before
-abbrev pub made : Image → ℕ → Image
-made image locks = makeTo image locks .image
+-- an image made anew, on set 1 by xiquepazo_make and on set 2 by xiquepazo_make_set_2, whatever it was before
+abbrev pub made : CodeSet → Image → ℕ → Image
+made set image locks = makeTo set image locks .image
 
--- Demand 3 of images: any calls, the all-up run with E and R, and any further calls, with bytes as events or frames, and refused reports and
--- frames anywhere; the further calls are seen as on an image made with the lock bits that stand
+-- the set in force
+abbrev pub setTo : Image → CodeSet
+setTo image = setIn (serviceOf image)
+
+-- Demand 3 of images: any calls, the all-up run of the set in force with E and R, and any further calls, with bytes as events or frames, and
+-- refused reports and frames anywhere; the further calls are seen as on an image made on that set with the lock bits that stand
 abbrev pub ImagesForget : Type 0
 ImagesForget =
-    (image other : Image) (locks : ℕ) → locks ≤ 15 → (first settling further : List Item) →
-    ranItems (serviceOf (afterCalls (made image locks) first)) settling ≡ map runs resynchronisation →
-    let settled = afterCalls (made image locks) (first ++ settling) in
-    seenCalls settled further ≡ seenCalls (made other (flagsTo settled .byte17 / 16)) further
+    (image other : Image) (set : CodeSet) (locks : ℕ) → locks ≤ 15 → (first settling further : List Item) →
+    let begun = afterCalls (made set image locks) first in
+    ranItems (serviceOf begun) settling ≡ map runs (resynchronisation (setTo begun)) →
+    let settled = afterCalls (made set image locks) (first ++ settling) in
+    seenCalls settled further ≡ seenCalls (made (setTo settled) other (flagsTo settled .byte17 / 16)) further
 
 -- sent counts the bytes that the events that ran show as sent
 abbrev pub ImagesCount : Type 0
 ImagesCount =
-    (image : Image) (locks : ℕ) → locks ≤ 15 → (items : List Item) →
-    let new = newService locks in
-    map (λ (s : Shown). s .sent) (shownIn (seenCalls (made image locks) items)) ≡ countsOf new 0 (ranEvents new items)
+    (image : Image) (set : CodeSet) (locks : ℕ) → locks ≤ 15 → (items : List Item) →
+    let new = newService set locks in
+    map (λ (s : Shown). s .sent) (shownIn (seenCalls (made set image locks) items)) ≡ countsOver new 0 (ranOf new items)

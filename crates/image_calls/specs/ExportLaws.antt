@@ -7,6 +7,7 @@ use mathlib.Core.Bool.{true}
 use mathlib.Core.List.{List}
 use lib.Dec.{ltb}
 use lib.ListN.{length}
+use Rattle.translation.specs.declared.CodeSet.{CodeSet}
 use Rattle.events.specs.declared.Event.{Event}
 use Rattle.report.specs.Reported.{reportLength}
 use Rattle.image.specs.declared.Image.{Image}
@@ -20,7 +21,7 @@ TagsRecognised = (event : Event) → recognised (written event) ≡ recognised-a
 
 -- 1 to 6, 9 and 11 to 13 leave the image, and the two that come before a reported event runs, 6 and 9, leave the buffer too
 pub record Leaves : Type 0 where
-  pub make : (image : Image) (bits : ℕ) → 15 < bits → makeTo image bits ≡ record { image = image; refusal = 1 }
+  pub make : (set : CodeSet) (image : Image) (bits : ℕ) → 15 < bits → makeTo set image bits ≡ record { image = image; refusal = 1 }
   pub event : (image : Image) (tagged : Tagged) → ltb 0x7F (eventTo image tagged .shown .ans) ≡ true → eventTo image tagged .image ≡ image
   pub frame : (image : Image) (frame : ℕ) → ltb 0x7F (frameTo image frame .shown .ans) ≡ true → frameTo image frame .image ≡ image
   pub report : (image : Image) (tagged : Tagged) (buffer : List ℕ) → reportTo image tagged buffer .refusal ≢ 0 → reportTo image tagged buffer .image ≡ image

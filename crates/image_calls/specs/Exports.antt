@@ -10,6 +10,7 @@ use Rattle.frame.specs.declared.Reading.{Reading}
 use Rattle.frame.specs.declared.Reading.the-variants as reading
 use Rattle.frame.specs.Frame.{readFrame, faultNumber}
 use Rattle.line.specs.State.{sentOf}
+use Rattle.translation.specs.declared.CodeSet.{CodeSet}
 use Rattle.state.specs.declared.Service.{Service}
 use Rattle.events.specs.declared.Event.{Event}
 use Rattle.events.specs.declared.Event.the-variants.{Key, Call, Poll, TimeOut, Empty, Restart}
@@ -21,7 +22,8 @@ use Rattle.answers.specs.Answers.{ansOf, wordOf}
 use Rattle.events.specs.Tags.{keyTag, callTag, pollTag, timeOutTag, emptyTag, restartTag, tagOf}
 use Rattle.events.specs.Run.{Shown as Seen, after}
 use Rattle.events.specs.Step.{stepOf}
-use Rattle.events.specs.Resynchronised.{resynchronisation}
+use Rattle.events.specs.Sets.{changeOf}
+use Rattle.events.specs.Resynchronised.{resynchronisation, setIn}
 use Rattle.report.specs.Reported.{reportedOf, bufferOf}
 use Rattle.image.specs.declared.FlagBytes.{FlagBytes}
 use Rattle.image.specs.declared.Image.{Image}
@@ -59,6 +61,19 @@ seen shown =
       byte96 = shown .byte96;
       byte97 = shown .byte97;
       sent = shown .sent;
+    }
+
+-- with another answer, and without a word
+abbrev pub withAnswer : Shown → ℕ → Shown
+withAnswer shown ans =
+    record {
+      word = 0;
+      ans = ans;
+      sent = shown .sent;
+      byte17 = shown .byte17;
+      byte18 = shown .byte18;
+      byte96 = shown .byte96;
+      byte97 = shown .byte97;
     }
 
 unfoldable pub shownToC : Outcome → Shown
@@ -141,8 +156,12 @@ unfoldable pub triedIn : Image → ℕ → Service → Refused
 triedIn image refusal after =
     if eqb refusal 0 then record { image = imageOf after; refusal = 0 } else record { image = image; refusal = refusal }
 
-abbrev pub makeTo : Image → ℕ → Refused
-makeTo image bits = triedIn image (makeOf bits .refusal) (makeOf bits .service)
+abbrev pub makeTo : CodeSet → Image → ℕ → Refused
+makeTo set image bits = triedIn image (makeOf set bits .refusal) (makeOf set bits .service)
+
+-- a change of set is never refused
+abbrev pub changeTo : CodeSet → Image → Changed
+changeTo set image = changedBy image (changeOf (serviceOf image) set)
 
 abbrev pub reportIn : Image → Event → List ℕ → Refused
 reportIn image event buffer =
@@ -169,8 +188,8 @@ writtenTo image tagged buffer = writtenAs image (recognised tagged) buffer
 abbrev pub flagsTo : Image → FlagBytes
 flagsTo image = flagBytesOf (serviceOf image)
 
--- the image after the all-up run, E and R, and what this R shows
+-- the image after the all-up run of the set in force, E and R, and what this R shows
 abbrev pub resynchronisedTo : Image → Changed
 resynchronisedTo image =
-    let settled = after (serviceOf image) resynchronisation in
+    let settled = after (serviceOf image) (resynchronisation (setIn (serviceOf image))) in
     record { image = imageOf settled; shown = shownWith (flagBytesOf settled) (ansOf Done) 0 0 }

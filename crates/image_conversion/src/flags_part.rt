@@ -1,6 +1,6 @@
-// Flag bytes of a service, what they say of its keys and locks, and prefixes as numbers.
+// Flag bytes of a service, what they say of its keys and locks, and prefixes and codes as numbers.
 ghost use mathlib.Core.Path.{_≡_};
-ghost use Rattle.image.specs.ImageFlags.{flagBytesOf, modifiersAt, heldAt, sharedAt, prefixNumber, prefixAt};
+ghost use Rattle.image.specs.ImageFlags.{flagBytesOf, modifiersAt, heldAt, sharedAt, prefixNumber, prefixAt, inputNumber, codesAt};
 use image::FlagBytes;
 use port::Held;
 use port::Modifiers;
@@ -9,6 +9,7 @@ use port::Shared;
 use port::Sides;
 use state::Service;
 use state::flags;
+use translation::Codes;
 
 pub fn flag_bytes(service: Service) -> FlagBytes
     ensures { λ r. ⌜ r ≡ flagBytesOf service ⌝ }
@@ -82,5 +83,26 @@ pub fn prefix_of(number: u8) -> Prefix
         3 => Prefix::E1Make,
         4 => Prefix::E1Break,
         _ => Prefix::Closed,
+    }
+}
+
+// The byte with the number of a prefix as its lower half and the codes as its upper half.
+pub fn input_number(prefix: u8, codes: Codes) -> u8
+    ensures { λ r. ⌜ r ≡ inputNumber prefix codes ⌝ }
+{
+    match codes {
+        Codes::SetOne => prefix % 16,
+        Codes::SetTwo => prefix % 16 + 16,
+        Codes::SetTwoMarked => prefix % 16 + 32,
+    }
+}
+
+pub fn codes_of(number: u8) -> Codes
+    ensures { λ r. ⌜ r ≡ codesAt number ⌝ }
+{
+    match number {
+        1 => Codes::SetTwo,
+        2 => Codes::SetTwoMarked,
+        _ => Codes::SetOne,
     }
 }

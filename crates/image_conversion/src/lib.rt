@@ -1,6 +1,9 @@
 // Services to images and back, and the image of a service newly made.
 ghost use mathlib.Core.Path.{_≡_};
-ghost use Rattle.image.specs.Image.{imageOf, portAt, serviceOf, newImage};
+ghost use Rattle.image.specs.Image.{imageOf, portAt, serviceOf, newImage, onSet};
+ghost use Rattle.image.specs.ImageFlags.{codesAt};
+ghost use Prim.Native.Nat.{_/_};
+ghost use Rattle.translation.specs.Translation.{setOf};
 use image::CommandImage;
 use image::FlagBytes;
 use image::Image;
@@ -10,6 +13,7 @@ use image::SettingImage;
 use image::WordImage;
 use port::Port;
 use state::Service;
+use translation::CodeSet;
 
 mod flags_part;
 mod line_part;
@@ -22,9 +26,10 @@ pub fn image_of(service: Service) -> Image
     let prefix = port.prefix;
     let line = service.line;
     let queue = service.queue;
+    let codes = service.codes;
     Image {
         flags: flags_part::flag_bytes(service),
-        prefix: flags_part::prefix_number(prefix),
+        input: flags_part::input_number(flags_part::prefix_number(prefix), codes),
         sum: port.sum,
         line: line_part::image_of(line),
         queue: queue_part::image_of(queue),
@@ -36,7 +41,7 @@ fn port_of(image: Image) -> Port
 {
     let flags = image.flags;
     Port {
-        prefix: flags_part::prefix_of(image.prefix),
+        prefix: flags_part::prefix_of(image.input % 16),
         modifiers: flags_part::modifiers_of(flags),
         held: flags_part::held_of(flags.byte18),
         sum: image.sum,
@@ -54,13 +59,15 @@ pub fn service_of(image: Image) -> Service
         shared: flags_part::shared_of(flags),
         queue: queue_part::queue_of(queue),
         line: line_part::line_of(line, flags.byte97),
+        codes: flags_part::codes_of(image.input / 16),
     }
 }
 
 // Written out, so that `image_of` is called from one place only, where the compiler puts its code.
-pub fn new(bits: u8) -> Image
-    ensures { λ r. ⌜ r ≡ newImage bits ⌝ }
+pub fn new(set: CodeSet, bits: u8) -> Image
+    ensures { λ r. ⌜ r ≡ newImage set bits ⌝ }
 {
+    let codes = translation::unmarked(set);
     Image {
         flags: FlagBytes {
             byte17: 16 * (bits % 16),
@@ -68,7 +75,7 @@ pub fn new(bits: u8) -> Image
             byte96: 0,
             byte97: 0,
         },
-        prefix: 0,
+        input: flags_part::input_number(0, codes),
         sum: 0,
         line: LineImage {
             rate: SettingImage { known: 0, value: 0 },
@@ -88,4 +95,20 @@ pub fn new(bits: u8) -> Image
             count: 0,
         },
     }
+}
+
+// The set in force.
+pub fn set_of(image: Image) -> CodeSet
+    ensures { λ r. ⌜ r ≡ setOf (codesAt (image .input / 16)) ⌝ }
+{
+    translation::set_of(flags_part::codes_of(image.input / 16))
+}
+
+// The image with the set changed, and nothing else.
+pub fn on_set(set: CodeSet, image: Image) -> Image
+    ensures { λ r. ⌜ r ≡ onSet set image ⌝ }
+{
+    let mut next = image;
+    next.input = flags_part::input_number(image.input, translation::unmarked(set));
+    next
 }

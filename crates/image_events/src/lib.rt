@@ -1,4 +1,4 @@
-// An event on an image, an image made and one resynchronised, by value. A refused call leaves every number of the image.
+// An event on an image, an image made on either set and one resynchronised, by value. A refused call leaves every number of the image.
 ghost use mathlib.Core.Path.{_≡_};
 ghost use Rattle.image_calls.specs.Exports.{shownWith, isUnknown, eventRun, ansIn, ranOf, recognised, eventTo, makeTo, resynchronisedTo};
 use answers::Answer;
@@ -13,6 +13,7 @@ use image_calls::Refused;
 use image_calls::Shown;
 use image_calls::Tagged;
 use state::Service;
+use translation::CodeSet;
 
 fn shown_with(flags: FlagBytes, ans: u8, word: u16, sent: u8) -> Shown
     ensures { λ r. ⌜ r ≡ shownWith flags ans word sent ⌝ }
@@ -105,24 +106,37 @@ pub fn event(image: Image, tagged: Tagged) -> Changed
     Changed { image: next, shown }
 }
 
-// A service newly made with four lock bits, or refusal 1.
-pub fn make(image: Image, bits: u8) -> Refused
-    ensures { λ r. ⌜ r ≡ makeTo image bits ⌝ }
+// A service newly made on a set with four lock bits, or refusal 1.
+fn made(set: CodeSet, image: Image, bits: u8) -> Refused
+    ensures { λ r. ⌜ r ≡ makeTo set image bits ⌝ }
 {
     if 15 < bits {
         return Refused { image, refusal: 1 };
     }
     Refused {
-        image: image_conversion::new(bits),
+        image: image_conversion::new(set, bits),
         refusal: 0,
     }
 }
 
-// As the all-up run, E and R leave it, with what this R shows: new, but for the lock bits, which are the upper half of byte 17.
+pub fn make(image: Image, bits: u8) -> Refused
+    ensures { λ r. ⌜ r ≡ makeTo CodeSet.One image bits ⌝ }
+{
+    made(CodeSet::One, image, bits)
+}
+
+pub fn make_set_two(image: Image, bits: u8) -> Refused
+    ensures { λ r. ⌜ r ≡ makeTo CodeSet.Two image bits ⌝ }
+{
+    made(CodeSet::Two, image, bits)
+}
+
+// As the all-up run of its set, E and R leave it, with what this R shows: new, but for the set and the lock bits, the upper half of byte 17.
 pub fn resynchronise(image: Image) -> Changed
     ensures { λ r. ⌜ r ≡ resynchronisedTo image ⌝ }
 {
-    let fresh = image_conversion::new(image.flags.byte17 / 16);
+    let set = image_conversion::set_of(image);
+    let fresh = image_conversion::new(set, image.flags.byte17 / 16);
     let flags = fresh.flags;
     Changed {
         image: fresh,

@@ -17,8 +17,8 @@ use Rattle.lent.specs.LentLaws.{Makes, RefusedLeaves, Frames, ShortUntou
 pub makes : Makes
 unfolding madeIn makeOf if_then_else_
 makes = record {
-  refused = λ service bits above. simp (lt-ltb _ _ above);
-  made = λ service bits within. simp (le-ltb _ _ within);
+  refused = λ set service bits above. simp (lt-ltb _ _ above);
+  made = λ set service bits within. simp (le-ltb _ _ within);
 }
 
 pub refused-leaves : RefusedLeaves

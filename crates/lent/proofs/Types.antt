@@ -1,9 +1,11 @@
--- The service, what an event answers and the outcomes as plain data.
+-- The service, what an event answers, the sets and the outcomes as plain data.
 -- Assumes nothing.
 use mathlib.Core.Path.{refl}
 use mathlib.Core.List.{[]}
 use mir.Syntax.{Ty, tyNamed}
 use denote.Struct.Laws as LL
+use Rattle.translation.proofs.CodeSet as CodeSet
+use Rattle.translation.proofs.CodeSet.Laws as CodeSet′
 use Rattle.state.proofs.Service as Service
 use Rattle.state.proofs.Service.Laws as Service′
 use Rattle.events.proofs.Event as Event
@@ -24,6 +26,9 @@ service-name = tyNamed (Service.the-type .name, [])
 
 abbrev pub event : Plain
 event = enum Event.the-type Event′.the-laws Event′.the-plain tt
+
+abbrev pub code-set : Plain
+code-set = enum CodeSet.the-type CodeSet′.the-laws CodeSet′.the-plain tt
 
 abbrev pub answered : Plain
 answered = struct Answered.the-type Answered′.the-laws Answered′.the-plain

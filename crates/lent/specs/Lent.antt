@@ -4,6 +4,7 @@ use Prim.Native.Nat.{ℕ}
 use mathlib.Core.List.{List}
 use lib.Dec.{eqb}
 use Rattle.bits.specs.Choice.{if_then_else_}
+use Rattle.translation.specs.declared.CodeSet.{CodeSet}
 use Rattle.state.specs.declared.Service.{Service}
 use Rattle.events.specs.declared.Event.{Event}
 use Rattle.events.specs.declared.Outcome.{Outcome}
@@ -11,8 +12,9 @@ use Rattle.state.specs.declared.Made.{Made}
 use Rattle.state.specs.State.{makeOf}
 use Rattle.events.specs.Step.{stepOf}
 use Rattle.events.specs.Frames.{frameStepOf}
+use Rattle.events.specs.Sets.{changeOf}
 use Rattle.events.specs.Run.{after}
-use Rattle.events.specs.Resynchronised.{resynchronisation}
+use Rattle.events.specs.Resynchronised.{resynchronisation, setIn}
 use Rattle.answers.specs.declared.Answer.the-variants.{Done}
 use Rattle.report.specs.declared.Reported.{Reported}
 use Rattle.report.specs.Reported.{reportedOf}
@@ -26,8 +28,8 @@ triedOf service made =
     if eqb (made .refusal) 0 then record { service = made .service; refusal = 0 }
     else record { service = service; refusal = made .refusal }
 
-unfoldable pub madeIn : Service → ℕ → Tried
-madeIn service bits = triedOf service (makeOf bits)
+unfoldable pub madeIn : CodeSet → Service → ℕ → Tried
+madeIn set service bits = triedOf service (makeOf set bits)
 
 abbrev pub answeredBy : Outcome → Answered
 answeredBy outcome = record { answer = outcome .answer; sent = outcome .sent }
@@ -41,6 +43,9 @@ eventIn service event = steppedOf (stepOf service event)
 unfoldable pub frameIn : Service → ℕ → Stepped
 frameIn service frame = steppedOf (frameStepOf service frame)
 
+unfoldable pub changeIn : Service → CodeSet → Stepped
+changeIn service set = steppedOf (changeOf service set)
+
 abbrev pub tellsOf : Reported → Tried
 tellsOf reported = record { service = reported .service; refusal = reported .refusal }
 
@@ -48,6 +53,7 @@ tellsOf reported = record { service = reported .service; refusal = reported .ref
 unfoldable pub reportedIn : Service → Event → List ℕ → Tried
 reportedIn service event buffer = tellsOf (reportedOf service event buffer)
 
--- the service after the all-up run, E and R, with what this R answers
+-- the service after the all-up run of the set in force, E and R, with what this R answers
 unfoldable pub resynchronisedIn : Service → Stepped
-resynchronisedIn service = record { service = after service resynchronisation; answered = record { answer = Done; sent = 0 } }
+resynchronisedIn service =
+    record { service = after service (resynchronisation (setIn service)); answered = record { answer = Done; sent = 0 } }

@@ -8,6 +8,7 @@ use Rattle.frame.specs.declared.Fault.{Fault}
 use Rattle.frame.specs.declared.Reading.the-variants as reading
 use Rattle.frame.specs.Frame.{readFrame}
 use Rattle.line.specs.State.{sentOf}
+use Rattle.translation.specs.declared.CodeSet.{CodeSet}
 use Rattle.state.specs.declared.Service.{Service}
 use Rattle.events.specs.declared.Event.{Event}
 use Rattle.events.specs.declared.Event.the-variants.{Key}
@@ -21,8 +22,9 @@ use Rattle.lent.specs.Lent.{madeIn, eventIn, frameIn, reportedIn}
 
 -- 1: lock bits above 15 leave the service that is lent; others make a new one of it
 pub record Makes : Type 0 where
-  pub refused : (service : Service) (bits : ℕ) → 15 < bits → madeIn service bits ≡ record { service = service; refusal = 1 }
-  pub made : (service : Service) (bits : ℕ) → bits ≤ 15 → madeIn service bits ≡ record { service = newService bits; refusal = 0 }
+  pub refused : (set : CodeSet) (service : Service) (bits : ℕ) → 15 < bits → madeIn set service bits ≡ record { service = service; refusal = 1 }
+  pub made : (set : CodeSet) (service : Service) (bits : ℕ) → bits ≤ 15 →
+      madeIn set service bits ≡ record { service = newService set bits; refusal = 0 }
 
 -- 2 to 5: an event that is refused
 abbrev pub RefusedLeaves : Type 0

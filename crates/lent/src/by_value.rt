@@ -1,20 +1,21 @@
 // What each lent call does, by value: the service that it leaves and what it returns.
 ghost use mathlib.Core.Path.{_≡_};
 ghost use Rattle.report.specs.Reported.{bufferOf};
-ghost use Rattle.lent.specs.Lent.{madeIn, resynchronisedIn, steppedOf, eventIn, frameIn, reportedIn};
+ghost use Rattle.lent.specs.Lent.{triedOf, madeIn, resynchronisedIn, steppedOf, eventIn, frameIn, changeIn, reportedIn};
 use crate::Answered;
 use crate::Stepped;
 use crate::Tried;
 use answers::Answer;
 use events::Event;
 use events::Outcome;
+use state::Made;
 use state::Service;
+use translation::CodeSet;
 
 // A refusal leaves the service as it was.
-pub fn make(service: Service, bits: u8) -> Tried
-    ensures { λ r. ⌜ r ≡ madeIn service bits ⌝ }
+fn tried(service: Service, made: Made) -> Tried
+    ensures { λ r. ⌜ r ≡ triedOf service made ⌝ }
 {
-    let made = service::make(bits);
     let refusal = made.refusal;
     if refusal == 0 {
         let fresh = made.service;
@@ -24,6 +25,18 @@ pub fn make(service: Service, bits: u8) -> Tried
         };
     }
     Tried { service, refusal }
+}
+
+pub fn make(service: Service, bits: u8) -> Tried
+    ensures { λ r. ⌜ r ≡ madeIn CodeSet.One service bits ⌝ }
+{
+    tried(service, service::make(CodeSet::One, bits))
+}
+
+pub fn make_set_two(service: Service, bits: u8) -> Tried
+    ensures { λ r. ⌜ r ≡ madeIn CodeSet.Two service bits ⌝ }
+{
+    tried(service, service::make(CodeSet::Two, bits))
 }
 
 fn stepped(outcome: Outcome) -> Stepped
@@ -50,6 +63,12 @@ pub fn frame(service: Service, frame: u16) -> Stepped
     ensures { λ r. ⌜ r ≡ frameIn service frame ⌝ }
 {
     stepped(service::frame(service, frame))
+}
+
+pub fn change(service: Service, set: CodeSet) -> Stepped
+    ensures { λ r. ⌜ r ≡ changeIn service set ⌝ }
+{
+    stepped(service::change(service, set))
 }
 
 pub fn report(service: Service, event: Event, buffer: &mut [u8]) -> Tried

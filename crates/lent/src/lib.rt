@@ -1,20 +1,21 @@
 // The service lent and changed in place: thin calls over the calls by value.
 ghost use mathlib.Core.Path.{_≡_};
 ghost use Rattle.report.specs.Reported.{bufferOf};
-ghost use Rattle.lent.specs.Lent.{madeIn, eventIn, frameIn, reportedIn, resynchronisedIn};
+ghost use Rattle.lent.specs.Lent.{madeIn, eventIn, frameIn, changeIn, reportedIn, resynchronisedIn};
 use answers::Answer;
 use events::Event;
 use state::Service;
+use translation::CodeSet;
 
 pub mod by_value;
 
-// What an event or a frame answers. `sent` counts the bytes of the command that runs or ended.
+// What an event, a frame or a change of set answers. `sent` counts the bytes of the command that runs or ended.
 pub struct Answered {
     pub answer: Answer,
     pub sent: u8,
 }
 
-// What an event or a frame leaves and answers.
+// What an event, a frame or a change of set leaves and answers.
 pub struct Stepped {
     pub service: Service,
     pub answered: Answered,
@@ -26,12 +27,22 @@ pub struct Tried {
     pub refusal: u8,
 }
 
-// The service newly made with four lock bits, or refusal 1.
+// The service newly made on set 1 with four lock bits, or refusal 1.
 pub fn make(service: &mut Service, bits: u8) -> u8
-    ensures { λ r. ⌜ (now (service .exit) ≡ madeIn (now (service .entry)) bits .service)
-        × (r ≡ madeIn (now (service .entry)) bits .refusal) ⌝ }
+    ensures { λ r. ⌜ (now (service .exit) ≡ madeIn CodeSet.One (now (service .entry)) bits .service)
+        × (r ≡ madeIn CodeSet.One (now (service .entry)) bits .refusal) ⌝ }
 {
     let tried = by_value::make(*service, bits);
+    *service = tried.service;
+    tried.refusal
+}
+
+// The same on set 2.
+pub fn make_set_two(service: &mut Service, bits: u8) -> u8
+    ensures { λ r. ⌜ (now (service .exit) ≡ madeIn CodeSet.Two (now (service .entry)) bits .service)
+        × (r ≡ madeIn CodeSet.Two (now (service .entry)) bits .refusal) ⌝ }
+{
+    let tried = by_value::make_set_two(*service, bits);
     *service = tried.service;
     tried.refusal
 }
@@ -56,6 +67,16 @@ pub fn frame(service: &mut Service, frame: u16) -> Answered
     stepped.answered
 }
 
+// A change of set, also to the same one.
+pub fn change(service: &mut Service, set: CodeSet) -> Answered
+    ensures { λ r. ⌜ (now (service .exit) ≡ changeIn (now (service .entry)) set .service)
+        × (r ≡ changeIn (now (service .entry)) set .answered) ⌝ }
+{
+    let stepped = by_value::change(*service, set);
+    *service = stepped.service;
+    stepped.answered
+}
+
 // One event, and its report at the start of the buffer; or refusal 9, and nothing is run or written.
 pub fn report(service: &mut Service, event: Event, buffer: &mut [u8]) -> u8
     ensures { λ r. ⌜ (now (service .exit) ≡ reportedIn (now (service .entry)) event (now (buffer .entry)) .service)
@@ -67,7 +88,7 @@ pub fn report(service: &mut Service, event: Event, buffer: &mut [u8]) -> u8
     tried.refusal
 }
 
-// As if the all-up run, E and R were fed; answered as this R is.
+// As if the all-up run of the set in force, E and R were fed; answered as this R is.
 pub fn resynchronise(service: &mut Service) -> Answered
     ensures { λ r. ⌜ (now (service .exit) ≡ resynchronisedIn (now (service .entry)) .service)
         × (r ≡ resynchronisedIn (now (service .entry)) .answered) ⌝ }

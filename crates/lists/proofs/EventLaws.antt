@@ -1,16 +1,18 @@
--- The laws that EventLaws.antt of specs/ states: nothing but events runs, so what is proved of lists of events carries over.
+-- The laws that EventLaws.antt of specs/ states: nothing but events and changes of set runs, and a change of set leaves line and queue, so what is
+-- proved of events carries over.
 -- Assumes nothing.
-use Prim.Native.Nat.{_≤_}
-use mathlib.Core.Path.{_≡_, refl, ap, sym, subst, _∙_}
+use Prim.Native.Nat.{ℕ, _≤_}
+use mathlib.Core.Path.{_≡_, refl, ap, _∙_}
 use mathlib.Core.List.{List, [], _∷_, _++_, map}
-use lib.ListN.{length}
 use Rattle.bits.specs.Choice.{if_then_else_}
 use Rattle.frame.specs.declared.Reading.{Reading}
 use Rattle.frame.specs.declared.Reading.the-variants.{Byte, Refused}
 use Rattle.frame.specs.Frame.{readFrame}
-use Rattle.queue.specs.Queue.{capacity}
-use Rattle.queue.specs.Words.{wordsOf}
+use Rattle.queue.specs.Words.{Whole}
+use Rattle.queue.proofs.Laws.{at-most-capacity}
+use Rattle.line.specs.State.{newLine, sentIn, sentOf}
 use Rattle.line.specs.Laws.{Within}
+use Rattle.translation.specs.declared.CodeSet.{CodeSet}
 use Rattle.state.specs.declared.Service.{Service}
 use Rattle.state.specs.State.{newService}
 use Rattle.state.specs.Ranges.{InRange}
@@ -20,82 +22,122 @@ use Rattle.events.specs.Outcomes.{answeredOf}
 use Rattle.events.specs.Functions.{callOf}
 use Rattle.events.specs.Step.{stepOf}
 use Rattle.events.specs.Frames.{onFrame, frameStepOf}
-use Rattle.events.specs.Run.{Shown, next, after}
-use Rattle.events.specs.Queued.{Listed}
-use Rattle.events.proofs.SentCounts.{sent-is-counted, sent-at-most-six, three-sends-each}
-use Rattle.events.proofs.QueueListed.{queue-as-listed, queue-at-most-capacity}
+use Rattle.events.specs.Sets.{changeOf}
+use Rattle.events.specs.Run.{Shown, shownOf, next}
+use Rattle.events.specs.Sent.{countAt}
+use Rattle.events.proofs.SentCounts.{step-counted, counted-on, within-new}
+use Rattle.events.proofs.QueueListed.{listed, whole-next, whole-new}
 use Rattle.events.proofs.Ranges.{stays-in-range}
-use Rattle.lists.specs.Items.{Item, runs, Stepped, stepItem, nextItem, afterItems, ranItems, seenItems, shownIn}
-use Rattle.lists.specs.EventLaws.{eventsOf, ranEvents, ItemsAsEvents, SentOverItems, QueueOverItems, ItemsStayInRange}
-use Rattle.lists.proofs.ItemLaws.{by-item, items-leave, items-show, events-as-items}
+use Rattle.lists.specs.Items.{Item, Stepped, stepItem, nextItem, afterItems, ranItems, seenItems, shownIn}
+use Rattle.lists.specs.EventLaws.{Ran, event, change, asItem, ranIn, ranOf, NothingElseRan, ItemsAsEvents, countsOver, SentOverItems, QueueOverItems, ItemsStayInRange}
+use Rattle.lists.proofs.ItemLaws.{by-item, items-leave, items-show, events-as-items, event-shown}
 
 -- ---- what ran
 
-abbrev OnlyEvents : Stepped → Type 0
-OnlyEvents stepped = stepped .ran ≡ map runs (eventsOf (stepped .ran))
+abbrev Plain : List Item → Type 0
+Plain ran = ran ≡ map asItem (ranIn ran)
 
-only-events : (service : Service) (item : Item) → OnlyEvents (stepItem service item)
+plain-append : (xs ys : List Ran) → Plain (map asItem xs ++ map asItem ys)
+plain-append [] [] = refl
+plain-append [] (event e ∷ ys) = ap (_∷_ (asItem (event e))) (plain-append [] ys)
+plain-append [] (change set ∷ ys) = ap (_∷_ (asItem (change set))) (plain-append [] ys)
+plain-append (event e ∷ xs) ys = ap (_∷_ (asItem (event e))) (plain-append xs ys)
+plain-append (change set ∷ xs) ys = ap (_∷_ (asItem (change set))) (plain-append xs ys)
+
+item-plain : (service : Service) (item : Item) → Plain (stepItem service item .ran)
 unfolding stepItem
-only-events service = by-item OnlyEvents service (λ event. refl) (λ buffer. refl) (λ event buffer. refl) (λ fault. refl)
+item-plain service =
+    by-item (λ (stepped : Stepped). Plain (stepped .ran)) service (λ e. refl) (λ buffer. refl) (λ e buffer. refl) (λ fault. refl) (λ set. refl)
 
-map-append : (xs ys : List Event) → map runs (xs ++ ys) ≡ map runs xs ++ map runs ys
-map-append [] ys = refl
-map-append (x ∷ xs) ys = ap (_∷_ (runs x)) (map-append xs ys)
-
-ran-events : (service : Service) (items : List Item) → ranItems service items ≡ map runs (ranEvents service items)
-ran-events service [] = refl
-ran-events service (item ∷ more) =
-    let events = eventsOf (stepItem service item .ran) in
-    let later = ranEvents (nextItem service item) more in
-    ap (λ (ran : List Item). ran ++ ranItems (nextItem service item) more) (only-events service item)
-    ∙ ap (λ (ran : List Item). map runs events ++ ran) (ran-events (nextItem service item) more)
-    ∙ sym (map-append events later)
+pub nothing-else-ran : NothingElseRan
+nothing-else-ran service [] = refl
+nothing-else-ran service (item ∷ more) =
+    let ran = stepItem service item .ran in
+    let later = ranItems (nextItem service item) more in
+    rw (item-plain service item, nothing-else-ran (nextItem service item) more) (plain-append (ranIn ran) (ranIn later))
 
 pub items-as-events : ItemsAsEvents
-items-as-events service items =
-    let ran = ran-events service items in
-    let alike = events-as-items service (ranEvents service items) in
+items-as-events service items events ran =
+    let alike = events-as-items service events in
     record {
-      ran = ran;
       leaves = items-leave service items ∙ ap (afterItems service) ran ∙ alike .leaves;
       shows = items-show service items ∙ ap (λ (done : List Item). shownIn (seenItems service done)) ran ∙ alike .shows;
     }
 
 -- ---- what carries over
 
--- what holds after every list of events holds after every list of items
-carried : (P : Service → Type 0) (service : Service) → ((events : List Event) → P (after service events))
-    → (items : List Item) → P (afterItems service items)
-carried P service h items = subst P (sym (items-as-events service items .leaves)) (h (ranEvents service items))
+-- what events and changes of set keep, every item keeps
+module _ (P : Service → Type 0)
+    (by-event : (service : Service) (e : Event) → P service → P (next service e))
+    (by-change : (service : Service) (set : CodeSet) → P service → P (changeOf service set .service)) where
+  step-kept : (service : Service) (item : Item) → P service → P (nextItem service item)
+  unfolding stepItem
+  step-kept service item h =
+      by-item (λ (stepped : Stepped). P (stepped .service)) service
+      (λ e. by-event service e h) (λ buffer. h) (λ e buffer. by-event service e h) (λ fault. h) (λ set. by-change service set h) item
+
+  kept : (service : Service) (items : List Item) → P service → P (afterItems service items)
+  kept service [] h = h
+  kept service (item ∷ more) h = kept (nextItem service item) more (step-kept service item h)
+
+within-after : (service : Service) (items : List Item) → Within (service .line) → Within (afterItems service items .line)
+unfolding changeOf answeredOf
+within-after = kept (λ (s : Service). Within (s .line)) (λ service e w. step-counted service e w .within) (λ service set w. w)
+
+whole-after : (service : Service) (items : List Item) → Whole (service .queue) → Whole (afterItems service items .queue)
+unfolding changeOf answeredOf
+whole-after = kept (λ (s : Service). Whole (s .queue)) whole-next (λ service set w. w)
+
+-- ---- sent
 
 -- a refused frame shows the count that a refused call shows
-frame-at-most-six : (service : Service) (reading : Reading) → ((event : Event) → stepOf service event .sent ≤ 6) → onFrame service reading .sent ≤ 6
+frame-at-most-six : (service : Service) (reading : Reading) → ((e : Event) → stepOf service e .sent ≤ 6) → onFrame service reading .sent ≤ 6
 unfolding stepOf callOf answeredOf if_then_else_
 frame-at-most-six service (Byte byte) six = six (Key byte)
 frame-at-most-six service (Refused fault) six = six (Call 0xFF 0 0)
 
+counted : (service : Service) (earlier : ℕ) (ran : List Ran) → Within (service .line) → sentOf (service .line) ≡ earlier
+    → map (λ (s : Shown). s .sent) (shownIn (seenItems service (map asItem ran))) ≡ countsOver service earlier ran
+unfolding stepItem changeOf answeredOf if_then_else_
+counted service earlier [] w e = refl
+counted service earlier (event one ∷ more) w e =
+    let step = counted-on service earlier one w e in
+    let count = countAt earlier one (shownOf (stepOf service one)) in
+    rw (event-shown service one)
+    (ap (λ (n : ℕ). n ∷ map (λ (s : Shown). s .sent) (shownIn (seenItems (next service one) (map asItem more)))) (step .count)
+    ∙ ap (_∷_ count) (counted (next service one) _ more (step .within) (step .later)))
+counted service earlier (change set ∷ more) w e = rw e (ap (_∷_ earlier) (counted (changeOf service set .service) earlier more w e))
+
+idle-count : (set : CodeSet) (locks : ℕ) → sentOf (newService set locks .line) ≡ 0
+unfolding newService newLine sentOf sentIn
+idle-count set locks = refl
+
 pub sent-over-items : SentOverItems
 unfolding frameStepOf
 sent-over-items = record {
-  counted = λ locks items.
-      let new = newService locks in
-      ap (map (λ (s : Shown). s .sent)) (items-as-events new items .shows) ∙ sent-is-counted locks (ranEvents new items);
-  event = λ locks items event. carried (λ (s : Service). stepOf s event .sent ≤ 6) (newService locks) (λ events. sent-at-most-six locks events event) items;
-  frame = λ locks items frame.
-      carried (λ (s : Service). frameStepOf s frame .sent ≤ 6) (newService locks)
-      (λ events. frame-at-most-six (after (newService locks) events) (readFrame frame) (sent-at-most-six locks events)) items;
-  sends = λ locks items. carried (λ (s : Service). Within (s .line)) (newService locks) (three-sends-each locks) items;
+  counted = λ set locks items.
+      let new = newService set locks in
+      ap (map (λ (s : Shown). s .sent))
+      (items-show new items ∙ ap (λ (done : List Item). shownIn (seenItems new done)) (nothing-else-ran new items))
+      ∙ counted new 0 (ranOf new items) (within-new set locks) (idle-count set locks);
+  event = λ set locks items e. at-most-six set locks items e;
+  frame = λ set locks items frame. frame-at-most-six (afterItems (newService set locks) items) (readFrame frame) (at-most-six set locks items);
+  sends = sends;
 }
+  where
+    sends : (set : CodeSet) (locks : ℕ) (items : List Item) → Within (afterItems (newService set locks) items .line)
+    sends set locks items = within-after (newService set locks) items (within-new set locks)
+
+    at-most-six : (set : CodeSet) (locks : ℕ) (items : List Item) (e : Event) → stepOf (afterItems (newService set locks) items) e .sent ≤ 6
+    at-most-six set locks items e = step-counted (afterItems (newService set locks) items) e (sends set locks items) .most
+
+-- ---- queue and ranges
 
 pub queue-over-items : QueueOverItems
 queue-over-items = record {
-  listed = λ locks items event. carried (λ (s : Service). Listed s event) (newService locks) (λ events. queue-as-listed locks events event) items;
-  most = λ locks items. carried (λ (s : Service). length (wordsOf (s .queue)) ≤ capacity) (newService locks) (queue-at-most-capacity locks) items;
+  listed = λ set locks items e. listed (afterItems (newService set locks) items) e (whole-after (newService set locks) items (whole-new set locks));
+  most = λ set locks items. at-most-capacity (afterItems (newService set locks) items .queue);
 }
 
-range-after : (service : Service) (events : List Event) → InRange service → InRange (after service events)
-range-after service [] h = h
-range-after service (event ∷ more) h = range-after (next service event) more (stays-in-range .event service event h)
-
 pub items-stay-in-range : ItemsStayInRange
-items-stay-in-range service items h = carried InRange service (λ events. range-after service events h) items
+items-stay-in-range = kept InRange (stays-in-range .event) (stays-in-range .change)

@@ -15,18 +15,20 @@ use Rattle.frame.specs.declared.Reading.{Reading}
 use Rattle.frame.specs.declared.Reading.the-variants.{Byte, Refused}
 use Rattle.frame.specs.Frame.{frameOf, readFrame}
 use Rattle.frame.proofs.OneFrameEach.{one-frame-each}
+use Rattle.translation.specs.declared.CodeSet.{CodeSet}
 use Rattle.state.specs.declared.Service.{Service}
 use Rattle.events.specs.declared.Event.{Event}
 use Rattle.events.specs.declared.Event.the-variants.{Key}
 use Rattle.events.specs.Outcomes.{answeredOf}
 use Rattle.events.specs.Step.{stepOf}
 use Rattle.events.specs.Frames.{onFrame, frameStepOf}
+use Rattle.events.specs.Sets.{changeOf}
 use Rattle.events.specs.Run.{shownOf, next}
 use Rattle.events.proofs.RefusedCalls.{at-most-five}
 use Rattle.report.specs.Report.{reportOf}
 use Rattle.report.specs.Reported.{refusalIn, tooShort}
 use Rattle.report.proofs.BufferLaws.{short-refused, long-reported, long-buffer}
-use Rattle.lists.specs.Items.{Item, runs, reports, receives, Seen, Stepped, answered, whereRan, fedBy, stepItem, nextItem, afterItems, ranItems, seenItems, shownIn}
+use Rattle.lists.specs.Items.{Item, runs, reports, receives, changes, Seen, Stepped, answered, whereRan, fedBy, stepItem, nextItem, afterItems, ranItems, seenItems, shownIn}
 use Rattle.lists.specs.ItemLaws.{refusedStep, ShortRunsNothing, reportedStep, LongRuns, AcceptedIsKey, refusedFrameStep, RefusedRunsNothing, ItemsLeave, ItemsShow, EachSeen, EventsAsItems, receivesByte, FramesAsKeys, Between, NothingBetween, RefusedBetween}
 
 -- ---- an event that ran, and a report by the length of its buffer
@@ -83,16 +85,18 @@ by-reading P service frame byte fault = split (readFrame frame) refl
 
 -- ---- any item
 
--- a property of all steps, from those of an event, a refused report, a report and a refused frame
+-- a property of all steps, from those of an event, a refused report, a report, a refused frame and a change of set
 pub by-item : (P : Stepped → Type 0) (service : Service)
     → ((event : Event) → P (stepItem service (runs event)))
     → ((buffer : List ℕ) → P (refusedStep service buffer))
     → ((event : Event) (buffer : List ℕ) → P (reportedStep service event buffer))
     → ((fault : Fault) → P (refusedFrameStep service fault))
+    → ((set : CodeSet) → P (stepItem service (changes set)))
     → (item : Item) → P (stepItem service item)
-by-item P service run short long fault (runs event) = run event
-by-item P service run short long fault (reports event buffer) = by-length P service event buffer (short buffer) (long event buffer)
-by-item P service run short long fault (receives frame) = by-reading P service frame (λ byte. run (Key byte)) fault
+by-item P service run short long fault change (runs event) = run event
+by-item P service run short long fault change (reports event buffer) = by-length P service event buffer (short buffer) (long event buffer)
+by-item P service run short long fault change (receives frame) = by-reading P service frame (λ byte. run (Key byte)) fault
+by-item P service run short long fault change (changes set) = change set
 
 -- what ran of an item leaves and shows the same
 record Alike (service : Service) (stepped : Stepped) : Type 0 where
@@ -100,19 +104,20 @@ record Alike (service : Service) (stepped : Stepped) : Type 0 where
   shows : whereRan (stepped .seen .refusal) (stepped .seen .shown) ≡ shownIn (seenItems service (stepped .ran))
 
 -- an event shows what it shows, refused or not
-event-shown : (service : Service) (event : Event)
+pub event-shown : (service : Service) (event : Event)
     → whereRan (refusalIn (shownOf (stepOf service event) .ans)) (shownOf (stepOf service event) ∷ []) ≡ shownOf (stepOf service event) ∷ []
 unfolding if_then_else_
 event-shown service event = simp (none-above-five service event)
 
 item-alike : (service : Service) (item : Item) → Alike service (stepItem service item)
-unfolding stepItem if_then_else_ reportOf
+unfolding stepItem if_then_else_ reportOf changeOf answeredOf
 item-alike service =
     by-item (Alike service) service
     (λ event. record { leaves = refl; shows = rw (event-shown service event) })
     (λ buffer. record { leaves = refl; shows = refl })
     (λ event buffer. record { leaves = refl; shows = rw (event-shown service event) })
     fault-alike
+    (λ set. record { leaves = refl; shows = refl })
   where
     fault-alike : (fault : Fault) → Alike service (refusedFrameStep service fault)
     fault-alike Start = record { leaves = refl; shows = refl }
@@ -130,7 +135,7 @@ pub seen-items-append : (service : Service) (xs ys : List Item)
 seen-items-append service [] ys = refl
 seen-items-append service (x ∷ xs) ys = ap (_∷_ (stepItem service x .seen)) (seen-items-append (nextItem service x) xs ys)
 
-ran-items-append : (service : Service) (xs ys : List Item)
+pub ran-items-append : (service : Service) (xs ys : List Item)
     → ranItems service (xs ++ ys) ≡ ranItems service xs ++ ranItems (afterItems service xs) ys
 ran-items-append service [] ys = refl
 ran-items-append service (x ∷ xs) ys =

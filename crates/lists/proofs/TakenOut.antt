@@ -14,11 +14,13 @@ use Rattle.frame.specs.Frame.{readFrame}
 use Rattle.frame.specs.Laws.{isAccepted}
 use Rattle.state.specs.declared.Service.{Service}
 use Rattle.events.specs.declared.Event.{Event}
+use Rattle.events.specs.Outcomes.{answeredOf}
 use Rattle.events.specs.Step.{stepOf}
+use Rattle.events.specs.Sets.{changeOf}
 use Rattle.events.specs.Run.{shownOf}
 use Rattle.events.proofs.RefusedCalls.{refused-step}
 use Rattle.report.specs.Report.{reportOf}
-use Rattle.lists.specs.Items.{Item, runs, reports, receives, Stepped, stepItem, nextItem, afterItems, seenItems}
+use Rattle.lists.specs.Items.{Item, runs, reports, receives, changes, Stepped, stepItem, nextItem, afterItems, seenItems}
 use Rattle.lists.specs.TakenOut.{others, TakenOut, refusedFrame, RefusedFramesOut, refused, RefusedOut}
 use Rattle.lists.proofs.ItemLaws.{refused-runs-nothing, by-item}
 
@@ -53,6 +55,7 @@ frame-leaves : (service : Service) (item : Item) → refusedFrame service item �
 frame-leaves service (runs event) is = absurd (true≢false (sym is))
 frame-leaves service (reports event buffer) is = absurd (true≢false (sym is))
 frame-leaves service (receives frame) is = fault-leaves service frame (readFrame frame) refl (not-true _ is)
+frame-leaves service (changes set) is = absurd (true≢false (sym is))
 
 pub refused-frames-out : RefusedFramesOut
 refused-frames-out = taken-out refusedFrame frame-leaves
@@ -69,9 +72,10 @@ event-leaves service event is =
     refused-step service event (lt-ltb 0x7F (shownOf (stepOf service event) .ans) (omega (arith, ltb-true 0 (shownOf (stepOf service event) .ans - 0x80) is)))
 
 item-leaves : (service : Service) (item : Item) → Leaves service (stepItem service item)
-unfolding stepItem reportOf
+unfolding stepItem reportOf changeOf answeredOf
 item-leaves service =
     by-item (Leaves service) service (event-leaves service) (λ buffer _. refl) (λ event buffer. event-leaves service event) (λ fault _. refl)
+    (λ set is. absurd (true≢false (sym is)))
 
 pub refused-out : RefusedOut
 refused-out = taken-out refused item-leaves

@@ -2,55 +2,77 @@
 -- Assumes nothing.
 use Prim.Native.Nat.{ℕ, _≤_}
 use mathlib.Core.Path.{_≡_}
-use mathlib.Core.List.{List, [], _∷_, _++_, map}
+use mathlib.Core.List.{List, [], _∷_, map}
 use lib.ListN.{length}
 use Rattle.queue.specs.Queue.{capacity}
 use Rattle.queue.specs.Words.{wordsOf}
 use Rattle.line.specs.Laws.{Within}
+use Rattle.translation.specs.declared.CodeSet.{CodeSet}
 use Rattle.state.specs.declared.Service.{Service}
 use Rattle.state.specs.State.{newService}
 use Rattle.state.specs.Ranges.{InRange}
 use Rattle.events.specs.declared.Event.{Event}
 use Rattle.events.specs.Step.{stepOf}
 use Rattle.events.specs.Frames.{frameStepOf}
-use Rattle.events.specs.Run.{Shown, run, after}
-use Rattle.events.specs.Sent.{countsOf}
+use Rattle.events.specs.Sets.{changeOf}
+use Rattle.events.specs.Run.{Shown, shownOf, next, run, after}
+use Rattle.events.specs.Sent.{countAt, carriedOn}
 use Rattle.events.specs.Queued.{Listed}
-use Rattle.lists.specs.Items.{Item, runs, reports, receives, stepItem, nextItem, afterItems, ranItems, seenItems, shownIn}
+use Rattle.lists.specs.Items.{Item, runs, reports, receives, changes, afterItems, ranItems, seenItems, shownIn}
 
--- the events that ran of a list
-abbrev pub eventsOf : List Item → List Event
-eventsOf [] = []
-eventsOf (runs event ∷ more) = event ∷ eventsOf more
-eventsOf (reports event buffer ∷ more) = eventsOf more
-eventsOf (receives frame ∷ more) = eventsOf more
+-- what runs: an event or a change of set, each by the plainest item of that effect
+pub data Ran : Type 0 where
+  event : Event → Ran
+  change : CodeSet → Ran
 
-abbrev pub ranEvents : Service → List Item → List Event
-ranEvents service [] = []
-ranEvents service (item ∷ more) = eventsOf (stepItem service item .ran) ++ ranEvents (nextItem service item) more
+abbrev pub asItem : Ran → Item
+asItem (event e) = runs e
+asItem (change set) = changes set
 
--- nothing else ran, and the list leaves and shows what they leave and show: so each law over lists of events is one over lists of items
-pub record AsRan (service : Service) (items : List Item) : Type 0 where
-  pub ran : ranItems service items ≡ map runs (ranEvents service items)
-  pub leaves : afterItems service items ≡ after service (ranEvents service items)
-  pub shows : shownIn (seenItems service items) ≡ run service (ranEvents service items)
+-- what ran of a list
+abbrev pub ranIn : List Item → List Ran
+ranIn [] = []
+ranIn (runs e ∷ more) = event e ∷ ranIn more
+ranIn (reports e buffer ∷ more) = ranIn more
+ranIn (receives frame ∷ more) = ranIn more
+ranIn (changes set ∷ more) = change set ∷ ranIn more
+
+abbrev pub ranOf : Service → List Item → List Ran
+ranOf service items = ranIn (ranItems service items)
+
+-- nothing else ran
+abbrev pub NothingElseRan : Type 0
+NothingElseRan = (service : Service) (items : List Item) → ranItems service items ≡ map asItem (ranOf service items)
+
+-- where no set was changed, a list leaves and shows what its events leave and show: so each law over lists of events is one over such lists
+pub record AsRan (service : Service) (items : List Item) (events : List Event) : Type 0 where
+  pub leaves : afterItems service items ≡ after service events
+  pub shows : shownIn (seenItems service items) ≡ run service events
 
 abbrev pub ItemsAsEvents : Type 0
-ItemsAsEvents = (service : Service) (items : List Item) → AsRan service items
+ItemsAsEvents = (service : Service) (items : List Item) (events : List Event) → ranItems service items ≡ map runs events → AsRan service items events
+
+-- the counts of what ran, one after the other: a change of set shows the count as it stands
+abbrev pub countsOver : Service → ℕ → List Ran → List ℕ
+countsOver service earlier [] = []
+countsOver service earlier (event e ∷ more) =
+    let count = countAt earlier e (shownOf (stepOf service e)) in
+    count ∷ countsOver (next service e) (carriedOn (next service e .line .phase) count) more
+countsOver service earlier (change set ∷ more) = earlier ∷ countsOver (changeOf service set .service) earlier more
 
 -- sent: the count of the bytes shown as sent; at most six at every event and every frame, three sends of each byte
 pub record SentOverItems : Type 0 where
-  pub counted : (locks : ℕ) (items : List Item) →
-      let new = newService locks in
-      map (λ (s : Shown). s .sent) (shownIn (seenItems new items)) ≡ countsOf new 0 (ranEvents new items)
-  pub event : (locks : ℕ) (items : List Item) (event : Event) → stepOf (afterItems (newService locks) items) event .sent ≤ 6
-  pub frame : (locks : ℕ) (items : List Item) (frame : ℕ) → frameStepOf (afterItems (newService locks) items) frame .sent ≤ 6
-  pub sends : (locks : ℕ) (items : List Item) → Within (afterItems (newService locks) items .line)
+  pub counted : (set : CodeSet) (locks : ℕ) (items : List Item) →
+      let new = newService set locks in
+      map (λ (s : Shown). s .sent) (shownIn (seenItems new items)) ≡ countsOver new 0 (ranOf new items)
+  pub event : (set : CodeSet) (locks : ℕ) (items : List Item) (event : Event) → stepOf (afterItems (newService set locks) items) event .sent ≤ 6
+  pub frame : (set : CodeSet) (locks : ℕ) (items : List Item) (frame : ℕ) → frameStepOf (afterItems (newService set locks) items) frame .sent ≤ 6
+  pub sends : (set : CodeSet) (locks : ℕ) (items : List Item) → Within (afterItems (newService set locks) items .line)
 
 -- the queue: every event does to its words what the answer says, and there are at most 15
 pub record QueueOverItems : Type 0 where
-  pub listed : (locks : ℕ) (items : List Item) (event : Event) → Listed (afterItems (newService locks) items) event
-  pub most : (locks : ℕ) (items : List Item) → length (wordsOf (afterItems (newService locks) items .queue)) ≤ capacity
+  pub listed : (set : CodeSet) (locks : ℕ) (items : List Item) (event : Event) → Listed (afterItems (newService set locks) items) event
+  pub most : (set : CodeSet) (locks : ℕ) (items : List Item) → length (wordsOf (afterItems (newService set locks) items .queue)) ≤ capacity
 
 -- no item takes a number of the service out of its range
 abbrev pub ItemsStayInRange : Type 0

@@ -7,19 +7,22 @@ use Rattle.bits.specs.Choice.{if_then_else_}
 use Rattle.frame.specs.declared.Reading.{Reading}
 use Rattle.frame.specs.declared.Reading.the-variants.{Byte, Refused}
 use Rattle.frame.specs.Frame.{readFrame}
+use Rattle.translation.specs.declared.CodeSet.{CodeSet}
 use Rattle.state.specs.declared.Service.{Service}
 use Rattle.events.specs.declared.Event.{Event}
 use Rattle.events.specs.declared.Event.the-variants.{Key}
 use Rattle.events.specs.Step.{stepOf}
 use Rattle.events.specs.Frames.{frameStepOf}
+use Rattle.events.specs.Sets.{changeOf}
 use Rattle.events.specs.Run.{Shown, shownOf, next}
 use Rattle.report.specs.Reported.{refusalIn, reportedOf, bufferOf}
 
--- an event is run, or it is handed to the reporter with a buffer of any length; a frame, any number, is received
+-- an event is run, or it is handed to the reporter with a buffer of any length; a frame, any number, is received; the set is changed
 pub data Item : Type 0 where
   runs : Event → Item
   reports : Event → List ℕ → Item
   receives : ℕ → Item
+  changes : CodeSet → Item
 
 -- what a caller sees of an item: what its answer shows, if it gets one; the number of its refusal, 0 for none; the buffer that it gets back
 pub record Seen : Type 0 where
@@ -65,6 +68,9 @@ stepItem service (reports event buffer) =
 stepItem service (receives frame) =
     let outcome = frameStepOf service frame in
     record { service = outcome .service; ran = fedBy (readFrame frame); seen = answered (shownOf outcome) }
+stepItem service (changes set) =
+    let outcome = changeOf service set in
+    record { service = outcome .service; ran = changes set ∷ []; seen = answered (shownOf outcome) }
 
 -- Lists: each item takes the service as the one before left it.
 
@@ -83,7 +89,7 @@ abbrev pub seenItems : Service → List Item → List Seen
 seenItems service [] = []
 seenItems service (item ∷ more) = stepItem service item .seen ∷ seenItems (nextItem service item) more
 
--- what the events that ran show, one after the other
+-- what the items that ran show, one after the other
 abbrev pub shownIn : List Seen → List Shown
 shownIn [] = []
 shownIn (seen ∷ more) = whereRan (seen .refusal) (seen .shown) ++ shownIn more

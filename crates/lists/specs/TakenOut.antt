@@ -9,7 +9,7 @@ use Rattle.bits.specs.Choice.{if_then_else_}
 use Rattle.frame.specs.Frame.{readFrame}
 use Rattle.frame.specs.Laws.{isAccepted}
 use Rattle.state.specs.declared.Service.{Service}
-use Rattle.lists.specs.Items.{Item, runs, reports, receives, Seen, stepItem, nextItem, afterItems, seenItems}
+use Rattle.lists.specs.Items.{Item, runs, reports, receives, changes, Seen, stepItem, nextItem, afterItems, seenItems}
 
 -- a test picks items when their turn comes: the list of the others, and what is seen of those in the whole list
 abbrev pub others : (Service → Item → Bool) → Service → List Item → List Item
@@ -32,6 +32,7 @@ abbrev pub refusedFrame : Service → Item → Bool
 refusedFrame service (runs event) = false
 refusedFrame service (reports event buffer) = false
 refusedFrame service (receives frame) = not (isAccepted (readFrame frame))
+refusedFrame service (changes set) = false
 
 abbrev pub RefusedFramesOut : Type 0
 RefusedFramesOut = (service : Service) (items : List Item) → TakenOut refusedFrame service items

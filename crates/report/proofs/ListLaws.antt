@@ -24,6 +24,6 @@ run-prints a b (event ∷ more) e =
 
 pub sent-on-one-digit : SentOnOneDigit
 unfolding textOf reportOf
-sent-on-one-digit locks events event =
-    let sent = stepOf (after (newService locks) events) event .sent in
-    omega (arith, digit-value sent, sent-at-most-six locks events event)
+sent-on-one-digit set locks events event =
+    let sent = stepOf (after (newService set locks) events) event .sent in
+    omega (arith, digit-value sent, sent-at-most-six set locks events event)

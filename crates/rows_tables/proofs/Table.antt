@@ -8,7 +8,7 @@ use lib.Dec.{T, lit<}
 use lib.ListN.{getD}
 use borrow.Author.Tests.{lt-ltb, le-ltb}
 use Rattle.bits.specs.Choice.{if_then_else_}
-use Rattle.bits.proofs.Tests.{and-left, and-right, allBelow, below}
+use Rattle.bits.proofs.Tests.{and-left, and-right, each-of-four, allBelow, below}
 use Rattle.word.specs.declared.ScanCode.{ScanCode}
 use Rattle.word.specs.Word.{codeOf, tableIndex}
 use Rattle.rows.specs.declared.Column.{Column}
@@ -59,19 +59,13 @@ at-row : (extended : Bool) (code : ScanCode) → T (code-agrees code) → T (row
 at-row false code t = and-left (row-agrees false code) (row-agrees true code) t
 at-row true code t = and-right (row-agrees false code) (row-agrees true code) t
 
-at-column : (p q r s : Bool) → T (p && (q && (r && s))) → T p × T q × T r × T s
-at-column p q r s t =
-    let u = and-right p (q && (r && s)) t in
-    let v = and-right q (r && s) u in
-    (and-left p (q && (r && s)) t, and-left q (r && s) u, and-left r s v, and-right r s v)
-
 pub tabled : (extended : Bool) (code : ScanCode) → tableIndex code < 256 → (column : Column)
     → cellOf (placeOf extended code) column ≡ entryAt extended code column
 tabled extended code h column = same-equal (cellOf (placeOf extended code) column) (entryAt extended code column) (go column)
   where
     all : T (agree extended code Plain) × T (agree extended code Shift) × T (agree extended code Ctrl) × T (agree extended code Alt)
     all =
-        at-column (agree extended code Plain) (agree extended code Shift) (agree extended code Ctrl) (agree extended code Alt)
+        each-of-four (agree extended code Plain) (agree extended code Shift) (agree extended code Ctrl) (agree extended code Alt)
         (at-row extended code (below (λ (n : ℕ). code-agrees (codeOf n)) 256 test (tableIndex code) h))
 
     go : (k : Column) → T (agree extended code k)

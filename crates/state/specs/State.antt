@@ -13,6 +13,9 @@ use Rattle.queue.specs.declared.Queue.{Queue}
 use Rattle.queue.specs.Queue.{emptyQueue}
 use Rattle.line.specs.declared.Line.{Line}
 use Rattle.line.specs.State.{newLine}
+use Rattle.translation.specs.declared.CodeSet.{CodeSet}
+use Rattle.translation.specs.declared.Codes.{Codes}
+use Rattle.translation.specs.Translation.{unmarkedOf}
 use Rattle.state.specs.declared.Service.{Service}
 use Rattle.state.specs.declared.Made.{Made}
 
@@ -26,28 +29,42 @@ locksOf bits =
       insert = bit3 bits;
     }
 
--- no key down, no word in the queue
-abbrev pub quietOf : Locks → Bool → Line → Service
-quietOf locks paused line =
-    record { port = newPort; shared = record { locks = locks; paused = paused }; queue = emptyQueue; line = line }
+-- no key down, no code marked, no word in the queue
+abbrev pub quietOf : CodeSet → Locks → Bool → Line → Service
+quietOf set locks paused line =
+    record {
+      port = newPort;
+      shared = record { locks = locks; paused = paused };
+      queue = emptyQueue;
+      line = line;
+      codes = unmarkedOf set;
+    }
 
 -- all but the locks is clear, the queue empty, the line idle
-abbrev pub withLocks : Locks → Service
-withLocks locks = quietOf locks false newLine
+abbrev pub withLocks : CodeSet → Locks → Service
+withLocks set locks = quietOf set locks false newLine
 
-unfoldable pub newService : ℕ → Service
-newService bits = withLocks (locksOf bits)
+-- document 02, W-203: on either set
+unfoldable pub newService : CodeSet → ℕ → Service
+newService set bits = withLocks set (locksOf bits)
 
 -- refusal 1: lock bits above 15
-unfoldable pub makeOf : ℕ → Made
-makeOf bits =
-    if ltb 15 bits then record { refusal = 1; service = newService 0 } else record { refusal = 0; service = newService bits }
+unfoldable pub makeOf : CodeSet → ℕ → Made
+makeOf set bits =
+    if ltb 15 bits then record { refusal = 1; service = newService set 0 } else record { refusal = 0; service = newService set bits }
 
 abbrev pub withPort : Service → Port → Shared → Service
-withPort service port shared = record { port = port; shared = shared; queue = service .queue; line = service .line }
+withPort service port shared =
+    record { port = port; shared = shared; queue = service .queue; line = service .line; codes = service .codes }
 
 abbrev pub withQueue : Service → Queue → Service
-withQueue service queue = record { port = service .port; shared = service .shared; queue = queue; line = service .line }
+withQueue service queue =
+    record { port = service .port; shared = service .shared; queue = queue; line = service .line; codes = service .codes }
 
 abbrev pub withLine : Service → Line → Service
-withLine service line = record { port = service .port; shared = service .shared; queue = service .queue; line = line }
+withLine service line =
+    record { port = service .port; shared = service .shared; queue = service .queue; line = line; codes = service .codes }
+
+abbrev pub withCodes : Service → Codes → Service
+withCodes service codes =
+    record { port = service .port; shared = service .shared; queue = service .queue; line = service .line; codes = codes }

@@ -1,11 +1,12 @@
 // The state of the service, and how its flag bytes show it.
 ghost use mathlib.Core.Path.{_≡_};
-ghost use Rattle.state.specs.State.{locksOf, withQueue, withLine};
+ghost use Rattle.state.specs.State.{locksOf, withQueue, withLine, withCodes};
 use line::Line;
 use port::Locks;
 use port::Port;
 use port::Shared;
 use queue::Queue;
+use translation::Codes;
 
 pub mod flags;
 pub mod status;
@@ -14,6 +15,7 @@ pub mod status;
 pub struct Service {
     pub port: Port,
     pub shared: Shared,
+    pub codes: Codes,
     pub queue: Queue,
     pub line: Line,
 }
@@ -52,4 +54,21 @@ pub fn with_line(service: Service, line: Line) -> Service
     let mut next = service;
     next.line = line;
     next
+}
+
+// The service with other codes coming.
+pub fn with_codes(service: Service, codes: Codes) -> Service
+    ensures { λ r. ⌜ r ≡ withCodes service codes ⌝ }
+{
+    let port = service.port;
+    let shared = service.shared;
+    let queue = service.queue;
+    let line = service.line;
+    Service {
+        port,
+        shared,
+        queue,
+        line,
+        codes,
+    }
 }

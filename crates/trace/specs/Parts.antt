@@ -6,6 +6,7 @@ use mathlib.Core.Path.{_≡_}
 use mathlib.Core.List.{List, [], _++_}
 use lib.ListN.{length, drop}
 use Rattle.bits.specs.Choice.{if_then_else_}
+use Rattle.translation.specs.declared.CodeSet.the-variants.{One}
 use Rattle.state.specs.declared.Service.{Service}
 use Rattle.state.specs.State.{newService}
 use Rattle.events.specs.Run.{next}
@@ -35,9 +36,9 @@ partsMost = 89
 abbrev pub placeAt : Service → ℕ → Place
 placeAt service offset = record { service = service; offset = offset; ended = false }
 
--- from locks 0, at the first byte of the pack
+-- from locks 0 on set 1, at the first byte of the pack
 abbrev pub firstPlace : Place
-firstPlace = placeAt (newService 0) 0
+firstPlace = placeAt (newService One 0) 0
 
 -- the closing lines are printed
 abbrev pub endedAt : Service → ℕ → Place

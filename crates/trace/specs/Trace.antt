@@ -2,6 +2,7 @@
 -- Assumes nothing.
 use Prim.Native.Nat.{ℕ}
 use mathlib.Core.List.{List, [], _∷_, _++_}
+use Rattle.translation.specs.declared.CodeSet.the-variants.{One}
 use Rattle.state.specs.declared.Service.{Service}
 use Rattle.state.specs.State.{newService}
 use Rattle.pack.specs.Parsing.{Parsed, parse}
@@ -24,6 +25,6 @@ closingOf end refusal = endLine end ++ refusedLine refusal
 unfoldable pub printedOf : Service → Parsed → List ℕ
 printedOf service parsed = textsOf service (parsed .events) ++ closingOf (parsed .end) (parsed .refusal)
 
--- the text of a pack, from locks 0
+-- the text of a pack, from locks 0 and on set 1
 unfoldable pub traceOf : List ℕ → List ℕ
-traceOf pack = printedOf (newService 0) (parse pack)
+traceOf pack = printedOf (newService One 0) (parse pack)

@@ -12,6 +12,7 @@ ghost use Rattle.trace.specs.Parts.{placeAt, firstPlace, endedAt, partOf
 use events::Event;
 use pack::Read;
 use state::Service;
+use translation::CodeSet;
 
 // The most reports of a part.
 const REPORTS: usize = 372;
@@ -91,11 +92,11 @@ fn place_at(service: Service, offset: u16) -> Place
     }
 }
 
-// The place before the first byte of a pack, with the service that kbdtrace starts from: lock bits 0.
+// The place before the first byte of a pack, with the service that kbdtrace starts from: lock bits 0, set 1.
 pub fn begin() -> Place
     ensures { λ r. ⌜ r ≡ firstPlace ⌝ }
 {
-    let made = service::make(0);
+    let made = service::make(CodeSet::One, 0);
     place_at(made.service, 0)
 }
 

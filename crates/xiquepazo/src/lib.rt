@@ -2,24 +2,58 @@
 ghost use mathlib.Core.Path.{_≡_};
 ghost use Rattle.frame.specs.Frame.{frameOf};
 ghost use Rattle.image_calls.specs.Reads.{readTo};
-ghost use Rattle.image_calls.specs.Exports.{eventTo, frameTo, makeTo, reportTo, writtenTo, flagsTo, resynchronisedTo};
+ghost use Rattle.image_calls.specs.Exports.{eventTo, frameTo, makeTo, changeTo, reportTo, writtenTo, flagsTo, resynchronisedTo};
 use image::FlagBytes;
 use image::Image;
 use image_calls::Reading;
 use image_calls::Shown;
 use image_calls::Tagged;
+use translation::CodeSet;
 
 mod over_event;
 
-// A service newly made with four lock bits, or refusal 1.
+// A service newly made on set 1 with four lock bits, or refusal 1.
 #[no_mangle]
 pub extern "C" fn xiquepazo_make(image: &mut Image, bits: u8) -> u8
-    ensures { λ r. ⌜ (now (image .exit) ≡ makeTo (now (image .entry)) bits .image)
-        × (r ≡ makeTo (now (image .entry)) bits .refusal) ⌝ }
+    ensures { λ r. ⌜ (now (image .exit) ≡ makeTo CodeSet.One (now (image .entry)) bits .image)
+        × (r ≡ makeTo CodeSet.One (now (image .entry)) bits .refusal) ⌝ }
 {
     let refused = image_events::make(*image, bits);
     *image = refused.image;
     refused.refusal
+}
+
+// The same on set 2.
+#[no_mangle]
+pub extern "C" fn xiquepazo_make_set_2(image: &mut Image, bits: u8) -> u8
+    ensures { λ r. ⌜ (now (image .exit) ≡ makeTo CodeSet.Two (now (image .entry)) bits .image)
+        × (r ≡ makeTo CodeSet.Two (now (image .entry)) bits .refusal) ⌝ }
+{
+    let refused = image_events::make_set_two(*image, bits);
+    *image = refused.image;
+    refused.refusal
+}
+
+// A change to set 1, also from set 1.
+#[no_mangle]
+pub extern "C" fn xiquepazo_to_set_1(image: &mut Image) -> Shown
+    ensures { λ r. ⌜ (now (image .exit) ≡ changeTo CodeSet.One (now (image .entry)) .image)
+        × (r ≡ changeTo CodeSet.One (now (image .entry)) .shown) ⌝ }
+{
+    let changed = over_event::to_set_one(*image);
+    *image = changed.image;
+    changed.shown
+}
+
+// A change to set 2, also from set 2: it closes the mark.
+#[no_mangle]
+pub extern "C" fn xiquepazo_to_set_2(image: &mut Image) -> Shown
+    ensures { λ r. ⌜ (now (image .exit) ≡ changeTo CodeSet.Two (now (image .entry)) .image)
+        × (r ≡ changeTo CodeSet.Two (now (image .entry)) .shown) ⌝ }
+{
+    let changed = over_event::to_set_two(*image);
+    *image = changed.image;
+    changed.shown
 }
 
 // Any event, by its capital; or refusal 6.
@@ -45,7 +79,7 @@ pub extern "C" fn xiquepazo_report(image: &mut Image, event: Tagged, buffer: &mu
     refused.refusal
 }
 
-// As if the all-up run, E and R were fed; shows what this R shows.
+// As if the all-up run of the set in force, E and R were fed; shows what this R shows.
 #[no_mangle]
 pub extern "C" fn xiquepazo_resynchronise(image: &mut Image) -> Shown
     ensures { λ r. ⌜ (now (image .exit) ≡ resynchronisedTo (now (image .entry)) .image)

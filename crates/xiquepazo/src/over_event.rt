@@ -1,9 +1,9 @@
-// The calls that go over an event: a report, a frame, and the flag bytes. Each runs the event that C runs, on a copy, so that its code stands
+// The calls that go over an event: a report, a frame, a change of set, and the flag bytes. Each runs the event that C runs, on a copy, so that its code stands
 // in the library once.
 ghost use mathlib.Core.Path.{_≡_};
 ghost use Rattle.frame.specs.Frame.{faultNumber};
 ghost use Rattle.report.specs.Report.{reportFrom};
-ghost use Rattle.image_calls.specs.Exports.{seen, refusedIn, eventTo, frameTo, reportTo, writtenTo, flagsTo};
+ghost use Rattle.image_calls.specs.Exports.{seen, withAnswer, refusedIn, eventTo, frameTo, changeTo, reportTo, writtenTo, flagsTo};
 use answers::Answer;
 use answers::Refusal;
 use events::Event;
@@ -16,6 +16,7 @@ use image_calls::Refused;
 use image_calls::Shown;
 use image_calls::Tagged;
 use report::Report;
+use translation::CodeSet;
 
 fn event_on_copy(image: Image, tagged: Tagged) -> Changed
     ensures { λ r. ⌜ r ≡ eventTo image tagged ⌝ }
@@ -85,23 +86,22 @@ pub fn flag_bytes(image: Image) -> FlagBytes
     }
 }
 
+// What is shown with another answer, and without a word.
+fn with_answer(shown: Shown, ans: u8) -> Shown
+    ensures { λ r. ⌜ r ≡ withAnswer shown ans ⌝ }
+{
+    let mut next = shown;
+    next.ans = ans;
+    next.word = 0;
+    next
+}
+
 fn refused_frame(image: Image, fault: Fault) -> Changed
     ensures { λ r. ⌜ r ≡ refusedIn image (faultNumber fault) ⌝ }
 {
     let ans = answers::number(Answer::Refused(Refusal::Frame(fault)));
-    let shown = standing(image);
-    Changed {
-        image,
-        shown: Shown {
-            word: 0,
-            ans,
-            sent: shown.sent,
-            byte17: shown.byte17,
-            byte18: shown.byte18,
-            byte96: shown.byte96,
-            byte97: shown.byte97,
-        },
-    }
+    let shown = with_answer(standing(image), ans);
+    Changed { image, shown }
 }
 
 // The event of the byte that a frame carries, or refused and nothing fed.
@@ -112,4 +112,31 @@ pub fn frame(image: Image, frame: u16) -> Changed
         Reading::Byte(byte) => event_on_copy(image, image_reading::tagged_of(Event::Key(byte))),
         Reading::Refused(fault) => refused_frame(image, fault),
     }
+}
+
+// A status call changes nothing, and writes the image of the changed set anew.
+fn change(set: CodeSet, image: Image) -> Changed
+    ensures { λ r. ⌜ r ≡ changeTo set image ⌝ }
+{
+    let next = image_conversion::on_set(set, image);
+    let status = image_reading::tagged_of(Event::Call(0x02, 0, 0));
+    let changed = event_on_copy(next, status);
+    let after = changed.image;
+    let shown = changed.shown;
+    Changed {
+        image: after,
+        shown: with_answer(shown, answers::number(Answer::Nothing)),
+    }
+}
+
+pub fn to_set_one(image: Image) -> Changed
+    ensures { λ r. ⌜ r ≡ changeTo CodeSet.One image ⌝ }
+{
+    change(CodeSet::One, image)
+}
+
+pub fn to_set_two(image: Image) -> Changed
+    ensures { λ r. ⌜ r ≡ changeTo CodeSet.Two image ⌝ }
+{
+    change(CodeSet::Two, image)
 }

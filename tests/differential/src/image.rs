@@ -1,6 +1,6 @@
 //! The exported functions, declared once, and safe calls over them.
 
-use reference::{Event, Input, Outcome, REPORT_LENGTH};
+use reference::{CodeSet, Event, Input, Outcome, REPORT_LENGTH};
 
 /// Bytes of a service as the library keeps it.
 pub const IMAGE_LENGTH: usize = 64;
@@ -11,7 +11,8 @@ pub mod place {
     pub const BYTE_18: usize = 1;
     pub const BYTE_96: usize = 2;
     pub const BYTE_97: usize = 3;
-    pub const PREFIX: usize = 4;
+    /// Two numbers in one byte: the lower half is the prefix, the upper half the codes that come.
+    pub const PREFIX_AND_CODES: usize = 4;
     pub const ALT_SUM: usize = 5;
     pub const RATE_KNOWN: usize = 6;
     pub const RATE: usize = 7;
@@ -68,6 +69,31 @@ pub mod flag {
     pub const READ: [u8; 4] = [0xF3, 0xFF, 0x0C, 0xB7];
 }
 
+/// The open prefix, as a number; any other is read as none.
+pub mod prefix {
+    pub const NONE: u8 = 0;
+    pub const E0: u8 = 1;
+    pub const E1: u8 = 2;
+    pub const E1_1D: u8 = 3;
+    pub const E1_9D: u8 = 4;
+}
+
+/// The codes that come, as a number; any other is read as set 1.
+pub mod codes {
+    pub const SET_1: u8 = 0;
+    pub const SET_2: u8 = 1;
+    /// The next code is a break.
+    pub const SET_2_MARKED: u8 = 2;
+}
+
+/// Numbers that one half of a byte can hold.
+const HALF: u8 = 16;
+
+/// The byte that holds a prefix and the codes that come; each is below 16.
+pub fn prefix_and_codes(prefix: u8, codes: u8) -> u8 {
+    prefix + HALF * codes
+}
+
 /// A service in memory that the caller lends. Any bytes mean some service, so any may be lent.
 #[repr(C, align(8))]
 #[derive(Clone, Debug, PartialEq, Eq)]
@@ -98,6 +124,9 @@ struct FlagBytes {
 
 extern "C" {
     fn xiquepazo_make(image: &mut Image, bits: u8) -> u8;
+    fn xiquepazo_make_set_2(image: &mut Image, bits: u8) -> u8;
+    fn xiquepazo_to_set_1(image: &mut Image) -> Shown;
+    fn xiquepazo_to_set_2(image: &mut Image) -> Shown;
     fn xiquepazo_event(image: &mut Image, event: Tagged) -> Shown;
     fn xiquepazo_report(image: &mut Image, event: Tagged, buffer: *mut u8, length: usize) -> u8;
     fn xiquepazo_resynchronise(image: &mut Image) -> Shown;
@@ -110,19 +139,27 @@ extern "C" {
 // Each call is sound for every argument: the library has no `requires`, every image is a service,
 // and a slice is as long as it says.
 impl Image {
-    /// A new service, or the refusal's number.
+    /// A new service on set 1, or the refusal's number.
     pub fn new(locks: u8) -> Result<Image, u8> {
+        Image::new_on(CodeSet::One, locks)
+    }
+
+    /// A new service on this set, or the refusal's number.
+    pub fn new_on(set: CodeSet, locks: u8) -> Result<Image, u8> {
         let bytes = [0; IMAGE_LENGTH];
         let mut image = Image { bytes };
-        match image.make(locks) {
+        match image.make_on(set, locks) {
             0 => Ok(image),
             refusal => Err(refusal),
         }
     }
 
     /// Makes the service anew; returns the refusal's number, 0 for none.
-    pub fn make(&mut self, locks: u8) -> u8 {
-        unsafe { xiquepazo_make(self, locks) }
+    pub fn make_on(&mut self, set: CodeSet, locks: u8) -> u8 {
+        match set {
+            CodeSet::One => unsafe { xiquepazo_make(self, locks) },
+            CodeSet::Two => unsafe { xiquepazo_make_set_2(self, locks) },
+        }
     }
 
     pub fn key(&mut self, byte: u8) -> Outcome {
@@ -149,22 +186,35 @@ impl Image {
         unsafe { xiquepazo_frame(self, frame) }.into()
     }
 
+    /// Changes the set, or closes the mark where it is the set in force.
+    pub fn change(&mut self, set: CodeSet) -> Outcome {
+        match set {
+            CodeSet::One => unsafe { xiquepazo_to_set_1(self) }.into(),
+            CodeSet::Two => unsafe { xiquepazo_to_set_2(self) }.into(),
+        }
+    }
+
     pub fn input(&mut self, input: &Input) -> Outcome {
         match input {
             Input::Event(event) => self.event(event),
             Input::Frame(frame) => self.frame(*frame),
+            Input::Change(set) => self.change(*set),
         }
     }
 
-    /// Runs the event that an input feeds, if it feeds one, and gives what is reported of it.
+    /// Does by the reporting call what an input does, and gives what is reported of it. A change of set
+    /// has no report, and a refused frame feeds nothing that could be told.
     pub fn report_of(&mut self, input: &Input) -> Option<Reported> {
+        if let Input::Change(set) = input {
+            self.change(*set);
+        }
         let event = input.fed()?;
         let mut text = [0; REPORT_LENGTH];
         let refusal = self.report(&event, &mut text);
         Some(Reported { refusal, text })
     }
 
-    /// What the all-up run, E and R leave; gives what this R shows.
+    /// What the all-up run of the set in force, E and R leave; gives what this R shows.
     pub fn resynchronise(&mut self) -> Outcome {
         unsafe { xiquepazo_resynchronise(self) }.into()
     }
@@ -172,6 +222,29 @@ impl Image {
     /// Flag bytes 17, 18, 96 and 97, as the call for them reads them.
     pub fn flag_bytes(&self) -> [u8; 4] {
         unsafe { xiquepazo_flags(self) }.bytes
+    }
+
+    /// The number of the prefix as it stands, in range or not.
+    pub fn prefix(&self) -> u8 {
+        self.bytes[place::PREFIX_AND_CODES] % HALF
+    }
+
+    /// The number of the codes that come as it stands, in range or not.
+    pub fn codes(&self) -> u8 {
+        self.bytes[place::PREFIX_AND_CODES] / HALF
+    }
+
+    /// Puts another number of codes, and leaves that of the prefix.
+    pub fn put_codes(&mut self, codes: u8) {
+        self.bytes[place::PREFIX_AND_CODES] = prefix_and_codes(self.prefix(), codes);
+    }
+
+    /// The set that is read from the number of the codes.
+    pub fn set(&self) -> CodeSet {
+        match self.codes() {
+            codes::SET_2 | codes::SET_2_MARKED => CodeSet::Two,
+            _ => CodeSet::One,
+        }
     }
 
     /// The four bytes where the flag bytes stand.

@@ -8,5 +8,8 @@
 mod image;
 mod pair;
 
-pub use image::{flag, frame_of, place, read, Image, Reading, Reported, Tagged, IMAGE_LENGTH};
-pub use pair::{report_due, Pair};
+pub use image::{
+    codes, flag, frame_of, place, prefix, prefix_and_codes, read, Image, Reading, Reported, Tagged,
+    IMAGE_LENGTH,
+};
+pub use pair::{prefix_and_codes_due, report_due, with_prefix_and_codes, Pair, PREFIXES};

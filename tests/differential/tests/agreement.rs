@@ -1,19 +1,21 @@
 //! Every input through the library shows what the reference shows: answer, word, flag bytes, bytes
-//! sent, refusal and the 44 bytes of its report. Run alone or with its report, an event leaves the same
-//! image, whether it came by itself or as a frame; a refused frame leaves the image it found. The first
-//! four bytes of the image are the flag bytes.
+//! sent, refusal and the 44 bytes of its report, and leaves its prefix, its code set and its mark. Run
+//! alone or with its report, an event leaves the same image, whether it came by itself or as a frame; a
+//! refused frame leaves the image it found. The first four bytes of the image are the flag bytes.
 //!
-//! The lists are random, of every flavour and from every setting of the locks, with frames among their
-//! events, and then those of the reference's generator, which try each rule. Where the two sides differ,
-//! the list is cut down to inputs that are all needed to see it.
+//! The lists are random, of every flavour, from either code set and from every setting of the locks, with
+//! frames and changes of set among their events, and then those of the reference's generator, which try
+//! each rule. Where the two sides differ, the list is cut down to inputs that are all needed to see it.
 
-use differential::{report_due, Image, Pair, Reported};
+use differential::place::PREFIX_AND_CODES;
+use differential::{prefix_and_codes_due, report_due, Image, Pair, Reported};
 use reference::generator::{packs, random_inputs, Flavour, Random, FLAVOURS};
 use reference::vectors::to_hex;
-use reference::{read_event, Input, Outcome, Service};
+use reference::{read_event, CodeSet, Input, Outcome, Service, CODE_SETS};
 use std::{fmt, thread};
 
-/// Random lists of each flavour from each setting of the locks: how many, and their lengths.
+/// Random lists of each flavour from each setting of the locks, on either set in turn: how many, and
+/// their lengths.
 const LISTS: [(usize, usize, usize); 3] = [(400, 1, 60), (40, 100, 600), (1, 30_000, 30_000)];
 const LEAST_INPUTS: usize = 2_000_000;
 
@@ -22,6 +24,8 @@ const LEAST_INPUTS: usize = 2_000_000;
 struct Seen {
     outcome: Outcome,
     flags: [u8; 4],
+    /// The byte for the prefix, and for the code set and its mark.
+    prefix_and_codes: u8,
     reported: Option<Reported>,
 }
 
@@ -29,8 +33,8 @@ impl fmt::Display for Seen {
     fn fmt(&self, formatter: &mut fmt::Formatter) -> fmt::Result {
         write!(
             formatter,
-            "{:X?}, then flags {:X?}; ",
-            self.outcome, self.flags
+            "{:X?}, then flags {:X?}, prefix and codes {:02X}; ",
+            self.outcome, self.flags, self.prefix_and_codes
         )?;
         match &self.reported {
             None => write!(formatter, "no report"),
@@ -47,6 +51,7 @@ fn seen_of_reference(service: &mut Service, input: &Input) -> Seen {
     Seen {
         outcome,
         flags: service.flag_bytes(),
+        prefix_and_codes: prefix_and_codes_due(service),
         reported: report_due(input, &outcome),
     }
 }
@@ -65,16 +70,20 @@ fn seen_of_library(image: &mut Image, input: &Input) -> Result<Seen, String> {
     Ok(Seen {
         outcome,
         flags: image.flag_bytes(),
+        prefix_and_codes: image.bytes[PREFIX_AND_CODES],
         reported,
     })
 }
 
+/// The code set and the locks that a list starts from.
+type Start = (CodeSet, u8);
+
 /// The place of the first input on which the two sides differ, and how.
-fn difference(locks: u8, inputs: &[Input]) -> Option<(usize, String)> {
+fn difference((set, locks): Start, inputs: &[Input]) -> Option<(usize, String)> {
     let Pair {
         mut image,
         mut service,
-    } = Pair::new(locks);
+    } = Pair::new_on(set, locks);
     for (place, input) in inputs.iter().enumerate() {
         let reference = seen_of_reference(&mut service, input);
         match seen_of_library(&mut image, input) {
@@ -90,13 +99,13 @@ fn difference(locks: u8, inputs: &[Input]) -> Option<(usize, String)> {
 }
 
 /// Leaves out input after input, as long as the rest still differs.
-fn cut_down(locks: u8, inputs: &[Input]) -> Vec<Input> {
+fn cut_down(start: Start, inputs: &[Input]) -> Vec<Input> {
     let mut inputs = inputs.to_vec();
     let mut place = 0;
     while place < inputs.len() {
         let mut fewer = inputs.clone();
         fewer.remove(place);
-        match difference(locks, &fewer) {
+        match difference(start, &fewer) {
             Some((last, _)) => inputs = fewer[..=last].to_vec(),
             None => place += 1,
         }
@@ -104,18 +113,20 @@ fn cut_down(locks: u8, inputs: &[Input]) -> Vec<Input> {
     inputs
 }
 
-fn assert_agrees(locks: u8, inputs: &[Input]) {
-    let Some((last, _)) = difference(locks, inputs) else {
+fn assert_agrees(start: Start, inputs: &[Input]) {
+    let Some((last, _)) = difference(start, inputs) else {
         return;
     };
-    let inputs = cut_down(locks, &inputs[..=last]);
-    let how = difference(locks, &inputs).map(|(_, how)| how);
+    let inputs = cut_down(start, &inputs[..=last]);
+    let how = difference(start, &inputs).map(|(_, how)| how);
     let mut pack = Vec::new();
     let fed = inputs.iter().filter_map(Input::fed);
     fed.for_each(|event| event.write(&mut pack));
     let pack = to_hex(&pack);
+    let (set, locks) = start;
     panic!(
-        "from locks {locks}, the list {inputs:X?}, which feeds the pack {pack}, ends in a difference\n{}",
+        "from set {set:?} and locks {locks}, the list {inputs:X?}, which but for changes of set feeds \
+         the pack {pack}, ends in a difference\n{}",
         how.unwrap_or_default()
     );
 }
@@ -126,10 +137,11 @@ fn compare_random_lists(flavour: Flavour) -> usize {
     let mut count = 0;
     for locks in 0..16 {
         for (lists, shortest, longest) in LISTS {
-            for _ in 0..lists {
+            for list in 0..lists {
+                let set = CODE_SETS[(list + usize::from(locks)) % CODE_SETS.len()];
                 let length = random.between(shortest, longest);
-                let inputs = random_inputs(&mut random, flavour, length);
-                assert_agrees(locks, &inputs);
+                let inputs = random_inputs(&mut random, flavour, set, length);
+                assert_agrees((set, locks), &inputs);
                 count += inputs.len();
             }
         }
@@ -147,7 +159,7 @@ fn random_lists_agree() {
             .map(|thread| thread.join().unwrap())
             .sum()
     });
-    println!("{count} events and frames of random lists agree");
+    println!("{count} events, frames and changes of set of random lists agree");
     assert!(count >= LEAST_INPUTS);
 }
 
@@ -167,7 +179,7 @@ fn generated_packs_agree() {
     let mut count = 0;
     for pack in packs() {
         let inputs = inputs_of(&pack.bytes);
-        assert_agrees(0, &inputs);
+        assert_agrees((CodeSet::One, 0), &inputs);
         count += inputs.len();
     }
     println!("{count} events of generated packs agree");

@@ -4,15 +4,17 @@
 //! the header says are not read change nothing. A refused call or frame leaves every bit as it was lent.
 
 use differential::place::*;
-use differential::{flag, report_due, Image, IMAGE_LENGTH};
-use reference::generator::{in_turn, random_events, random_inputs, Random, FLAVOURS};
-use reference::Input;
+use differential::{codes, flag, prefix, prefix_and_codes, report_due, with_prefix_and_codes};
+use differential::{Image, Pair, IMAGE_LENGTH};
+use reference::generator::{in_turn, random_inputs, Random, FLAVOURS};
+use reference::{CodeSet, Event, Input, CODE_SETS};
 
 const IMAGES: usize = 200_000;
 const EVENTS: usize = 10;
+/// Services that have every number put at the place of prefix and codes.
+const SERVICES: usize = 320;
 
-/// The most that numbers of one byte are read as; the phase and the prefix are looked at apart, and
-/// words and the Alt sum may be anything.
+/// The most that numbers of one byte are read as; words and the Alt sum may be anything.
 const MOST: [(usize, u8); 6] = [
     (RATE_KNOWN, 1),
     (HANDLED_KNOWN, 1),
@@ -21,27 +23,78 @@ const MOST: [(usize, u8); 6] = [
     (SENDS, 3),
     (SENT, 6),
 ];
+/// The most that the number of queued words is read as.
+const MOST_COUNT: u64 = 15;
+
+/// The most that a number may be; a larger one is read as 0.
+const LARGEST_PREFIX: u8 = prefix::E1_9D;
+const LARGEST_CODES: u8 = codes::SET_2_MARKED;
+const LARGEST_PHASE: u8 = 2;
+const LARGEST_HEAD: u64 = 14;
+
+/// Numbers of eight bytes: some in range, some just out of it, and some with a bit far above.
+const LONG_NUMBERS: [u64; 14] = [
+    0,
+    1,
+    7,
+    14,
+    15,
+    16,
+    0x7F,
+    0x80,
+    0xFF,
+    0x10E,
+    1 << 32,
+    u64::MAX >> 1,
+    1 << 63,
+    u64::MAX,
+];
+
+/// Bytes that soon tell what was open: those that go on with E1 on either set, a mark, a reply and others.
+const TELLING: [u8; 12] = [
+    0x12, 0x14, 0x1C, 0x1D, 0x45, 0x77, 0x9D, 0xAA, 0xC5, 0xE0, 0xF0, 0xFA,
+];
+
+/// Inputs that are never refused, so that each writes the service anew. None is a byte of the keyboard, so
+/// that the prefix stays.
+const ACCEPTED: [Input; 7] = [
+    Input::Change(CodeSet::One),
+    Input::Change(CodeSet::Two),
+    Input::Event(Event::Call(0x02, 0, 0)),
+    Input::Event(Event::Poll),
+    Input::Event(Event::TimeOut),
+    Input::Event(Event::Empty),
+    Input::Event(Event::Restart),
+];
 
 fn any_image(random: &mut Random) -> Image {
-    let mut image = Image::new(random.below(16) as u8).unwrap();
+    let set = random.pick(&CODE_SETS);
+    let mut image = Image::new_on(set, random.below(16) as u8).unwrap();
     match random.below(4) {
         0 => image.bytes.fill_with(|| random.byte()),
-        // Small numbers, which more often stand for a prefix, a phase or a place in the queue.
+        // Small numbers, which more often stand for a prefix or a phase.
         1 => image.bytes.fill_with(|| random.below(5) as u8),
-        // The largest numbers and their neighbours, in places and counts too.
+        // The largest numbers and their neighbours.
         2 => image
             .bytes
-            .chunks_mut(std::mem::size_of::<usize>())
-            .for_each(|number| number.fill(random.pick(&[0x00, 0x7F, 0x80, 0xFF]))),
+            .fill_with(|| random.pick(&[0x00, 0x0E, 0x0F, 0x10, 0x7F, 0x80, 0xFF])),
         _ => {
             let flavour = random.pick(&FLAVOURS);
-            for event in random_events(random, flavour, 30) {
-                image.event(&event);
+            for input in random_inputs(random, flavour, set, 30) {
+                image.input(&input);
             }
             for _ in 0..random.between(1, 8) {
                 image.bytes[random.below(IMAGE_LENGTH)] = random.byte();
             }
         }
+    }
+    // Few of the numbers above stand for set 2, or for a place in the queue and a count.
+    if random.below(2) == 0 {
+        image.put_codes(random.pick(&[codes::SET_2, codes::SET_2_MARKED]));
+    }
+    if random.below(2) == 0 {
+        put_number(&mut image.bytes, HEAD, random.pick(&LONG_NUMBERS));
+        put_number(&mut image.bytes, COUNT, random.pick(&LONG_NUMBERS));
     }
     image
 }
@@ -62,46 +115,60 @@ fn unread(bytes: &[u8; IMAGE_LENGTH]) -> [u8; IMAGE_LENGTH] {
 }
 
 /// The flags that follow from the other numbers, where these are in range.
-fn following(bytes: &[u8; IMAGE_LENGTH]) -> [((usize, u8), bool); 5] {
+fn following(image: &Image) -> [((usize, u8), bool); 5] {
+    let (bytes, prefix) = (&image.bytes, image.prefix());
     let on = |(place, bit): (usize, u8)| bytes[place] & bit != 0;
     [
         (flag::CTRL, on(flag::LEFT_CTRL) || on(flag::RIGHT_CTRL)),
         (flag::ALT, on(flag::LEFT_ALT) || on(flag::RIGHT_ALT)),
-        (flag::E0_OPEN, bytes[PREFIX] == 1),
-        (flag::E1_OPEN, bytes[PREFIX] > 1),
+        (flag::E0_OPEN, prefix == prefix::E0),
+        (flag::E1_OPEN, prefix >= prefix::E1),
         (flag::LED_COMMAND_RUNS, bytes[PHASE] > 0 && bytes[KIND] == 0),
     ]
 }
 
+/// A number of eight bytes, the lowest first.
 fn number_at(bytes: &[u8; IMAGE_LENGTH], start: usize) -> u64 {
     u64::from_le_bytes(bytes[start..start + 8].try_into().unwrap())
 }
 
+fn put_number(bytes: &mut [u8; IMAGE_LENGTH], start: usize, number: u64) {
+    bytes[start..start + 8].copy_from_slice(&number.to_le_bytes());
+}
+
+/// What a number is read as where those above the largest are read as 0.
+fn in_range<Number: PartialOrd + Default>(number: Number, largest: Number) -> Number {
+    if number > largest {
+        Number::default()
+    } else {
+        number
+    }
+}
+
 /// What the header says that these bytes mean, in the form that the library writes.
 fn meant(image: &Image) -> Image {
-    let mut bytes = image.bytes;
+    let mut meant = image.clone();
+    let bytes = &mut meant.bytes;
     for (byte, bits) in bytes.iter_mut().zip(unread(&image.bytes)) {
         *byte &= !bits;
     }
     for (place, most) in MOST {
         bytes[place] = bytes[place].min(most);
     }
-    for (place, most) in [(PREFIX, 4), (PHASE, 2)] {
-        if bytes[place] > most {
-            bytes[place] = 0;
-        }
-    }
-    let head = number_at(&bytes, HEAD);
-    let head = if head > 14 { 0 } else { head };
-    let count = number_at(&bytes, COUNT).min(15);
-    bytes[HEAD..HEAD + 8].copy_from_slice(&head.to_le_bytes());
-    bytes[COUNT..COUNT + 8].copy_from_slice(&count.to_le_bytes());
-    for ((place, bit), on) in following(&bytes) {
+    let prefix = in_range(image.prefix(), LARGEST_PREFIX);
+    let codes = in_range(image.codes(), LARGEST_CODES);
+    bytes[PREFIX_AND_CODES] = prefix_and_codes(prefix, codes);
+    bytes[PHASE] = in_range(bytes[PHASE], LARGEST_PHASE);
+    let head = in_range(number_at(bytes, HEAD), LARGEST_HEAD);
+    put_number(bytes, HEAD, head);
+    let count = number_at(bytes, COUNT).min(MOST_COUNT);
+    put_number(bytes, COUNT, count);
+    for ((place, bit), on) in following(&meant) {
         if on {
-            bytes[place] |= bit;
+            meant.bytes[place] |= bit;
         }
     }
-    Image { bytes }
+    meant
 }
 
 /// The same service in the library's form: a status call changes nothing else.
@@ -159,17 +226,62 @@ fn any_bytes_are_a_service() {
     let mut random = Random::new(0xA4B);
     for number in 0..IMAGES {
         let mut image = any_image(&mut random);
-        let lent = image.clone();
-        let (flavour, _) = in_turn(number);
-        for input in random_inputs(&mut random, flavour, EVENTS) {
+        let (lent, set) = (image.clone(), image.set());
+        let (flavour, ..) = in_turn(number);
+        for input in random_inputs(&mut random, flavour, set, EVENTS) {
             check_input(&mut image, &input, &mut random);
         }
-        let (mut settled, mut made) = (lent.clone(), lent);
+        let mut settled = lent.clone();
         let locks = settled.flag_bytes()[0] >> 4;
         assert_eq!(settled.resynchronise().flags, [locks << 4, 0, 0, 0]);
-        assert_eq!(Ok(settled), Image::new(locks));
-        assert_eq!(made.make(5), 0);
-        assert_eq!(Ok(made), Image::new(5));
+        assert_eq!(Ok(settled), Image::new_on(set, locks));
+        for set in CODE_SETS {
+            let mut made = lent.clone();
+            assert_eq!(made.make_on(set, 5), 0);
+            assert_eq!(Ok(made), Image::new_on(set, 5));
+        }
+    }
+}
+
+/// Refused calls of three kinds leave every bit, and accepted inputs show and leave what is due.
+fn check_calls(pair: &Pair) {
+    let mut image = pair.image.clone();
+    assert_eq!(image.call(0x04, 0, 0).ans, 0x82);
+    assert_eq!(image.frame(0x0001).ans, 0x8B);
+    assert_eq!(image.make_on(CodeSet::Two, 16), 1);
+    assert_eq!(image, pair.image);
+    for input in ACCEPTED {
+        pair.clone().input(&input);
+    }
+}
+
+/// Each half of the byte is read as the header says, the lower as a prefix and the upper as the codes that
+/// come; from there on a service does what the reference does, and has the byte in range.
+#[test]
+fn any_number_stands_for_a_prefix_and_codes() {
+    let mut random = Random::new(0x5E6);
+    for service in 0..SERVICES {
+        let (flavour, set, locks) = in_turn(service);
+        let mut used = Pair::new_on(set, locks);
+        let length = random.below(60);
+        for input in random_inputs(&mut random, flavour, set, length) {
+            used.input(&input);
+        }
+        for number in 0..=255 {
+            let mut pair = used.clone();
+            pair.image.bytes[PREFIX_AND_CODES] = number;
+            let (prefix, codes) = (pair.image.prefix(), pair.image.codes());
+            pair.service = with_prefix_and_codes(&used.service, prefix, codes);
+            let set = pair.image.set();
+            assert_eq!(set, pair.service.set());
+            assert_eq!(pair.image.flag_bytes(), pair.service.flag_bytes());
+            check_calls(&pair);
+            // First a byte, which is never refused, so that the number is written anew.
+            pair.event(&Event::Key(random.pick(&TELLING)));
+            for input in random_inputs(&mut random, flavour, set, EVENTS) {
+                pair.input(&input);
+            }
+        }
     }
 }
 

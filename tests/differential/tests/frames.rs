@@ -3,12 +3,19 @@
 //! could as well not have come.
 
 use differential::{frame_of, Image, Pair};
-use reference::generator::{in_turn, random_inputs, Random};
+use reference::generator::random_lists;
 use reference::Event::{self, Key, Poll};
-use reference::{read_frame, write_frame};
+use reference::{read_frame, write_frame, CodeSet, Input};
 
 const LISTS: usize = 8_000;
 const LONGEST: usize = 200;
+
+/// How the next byte is taken: on set 1, on set 2, and on set 2 behind a mark.
+const TRANSLATIONS: [&[Input]; 3] = [
+    &[],
+    &[Input::Change(CodeSet::Two)],
+    &[Input::Change(CodeSet::Two), Input::Event(Key(0xF0))],
+];
 
 /// What brings a new service into use, each another part of it.
 const USES: [&[Event]; 11] = [
@@ -56,26 +63,23 @@ fn each_byte_has_its_frame() {
 #[test]
 fn every_number_is_read_as_the_reference_reads_it() {
     for (place, events) in USES.into_iter().enumerate() {
-        let mut pair = Pair::new((3 * place % 16) as u8);
-        events.iter().for_each(|event| pair.event(event));
-        for frame in 0..=u16::MAX {
-            assert_read(&pair, frame);
+        for inputs in TRANSLATIONS {
+            let mut pair = Pair::new_on(CodeSet::One, (3 * place % 16) as u8);
+            events.iter().for_each(|event| pair.event(event));
+            inputs.iter().for_each(|input| pair.input(input));
+            (0..=u16::MAX).for_each(|frame| assert_read(&pair, frame));
         }
     }
 }
 
 #[test]
 fn refused_frames_can_be_taken_out() {
-    let mut random = Random::new(0xF8A);
-    for list in 0..LISTS {
-        let (flavour, locks) = in_turn(list);
-        let mut whole = Image::new(locks).unwrap();
+    for (set, locks, inputs) in random_lists(0xF8A, LISTS, LONGEST) {
+        let mut whole = Image::new_on(set, locks).unwrap();
         let mut without = whole.clone();
-        let length = random.below(LONGEST + 1);
-        let inputs = random_inputs(&mut random, flavour, length);
         for input in &inputs {
             let shown = whole.input(input);
-            if input.fed().is_some() {
+            if !input.is_refused_frame() {
                 assert_eq!(shown, without.input(input), "{inputs:X?}");
             }
         }

@@ -2,16 +2,29 @@
 //! change few of them change the bytes at their places and no others. A flag is read from the bit
 //! that it is written to, and the other bits of the flag bytes are not read.
 
+use differential::codes::{SET_1, SET_2, SET_2_MARKED};
 use differential::flag::*;
 use differential::place::*;
-use differential::{Image, IMAGE_LENGTH};
+use differential::prefix::{E0, E1, E1_1D, E1_9D, NONE};
+use differential::{prefix_and_codes, Image, IMAGE_LENGTH};
 use reference::Event::{self, Call, Empty, Key, Poll, Restart};
+use reference::{CodeSet, CODE_SETS};
 
 /// The bits of the flag bytes that have a meaning.
 const MEANT: [u8; 4] = [0xFF, 0xFF, 0x0F, 0xF7];
 
 /// Events on a new service with no lock on, and the numbers and flags that are not 0 after them.
 type Change = (Vec<Event>, Vec<(usize, u8)>);
+
+/// A prefix at its place: the lower half of a byte.
+fn prefix(number: u8) -> (usize, u8) {
+    (PREFIX_AND_CODES, prefix_and_codes(number, SET_1))
+}
+
+/// The codes that come at their place: the upper half of that byte.
+fn codes(number: u8) -> (usize, u8) {
+    (PREFIX_AND_CODES, prefix_and_codes(NONE, number))
+}
 
 fn keys(bytes: &[u8]) -> Vec<Event> {
     bytes.iter().map(|&byte| Key(byte)).collect()
@@ -52,10 +65,10 @@ fn changes_by_keys() -> Vec<Change> {
         (keys(&[0xE0, 0x1D]), vec![RIGHT_CTRL, CTRL]),
         (keys(&[0x38]), vec![LEFT_ALT, ALT]),
         (keys(&[0xE0, 0x38]), vec![RIGHT_ALT, ALT]),
-        (keys(&[0xE0]), vec![(PREFIX, 1), E0_OPEN]),
-        (keys(&[0xE1]), vec![(PREFIX, 2), E1_OPEN]),
-        (keys(&[0xE1, 0x1D]), vec![(PREFIX, 3), E1_OPEN]),
-        (keys(&[0xE1, 0x9D]), vec![(PREFIX, 4), E1_OPEN]),
+        (keys(&[0xE0]), vec![prefix(E0), E0_OPEN]),
+        (keys(&[0xE1]), vec![prefix(E1), E1_OPEN]),
+        (keys(&[0xE1, 0x1D]), vec![prefix(E1_1D), E1_OPEN]),
+        (keys(&[0xE1, 0x9D]), vec![prefix(E1_9D), E1_OPEN]),
         (keys(&[0x38, 0x4B]), vec![LEFT_ALT, ALT, (ALT_SUM, 4)]),
     ]
 }
@@ -160,6 +173,50 @@ fn each_number_stands_at_its_place() {
     assert_eq!(seen, MEANT, "each flag was on after some events");
 }
 
+/// Made on a set, or changed to it, whether a mark is open or not.
+#[test]
+fn the_set_stands_at_its_place() {
+    for (set, number) in [(CodeSet::One, SET_1), (CodeSet::Two, SET_2)] {
+        let made = Image::new_on(set, 0).unwrap();
+        assert_eq!(made.bytes, bytes_with(&[codes(number)]));
+        for former in CODE_SETS {
+            let mut changed = Image::new_on(former, 0).unwrap();
+            changed.change(set);
+            assert_eq!(changed, made);
+            changed.key(0xF0);
+            changed.change(set);
+            assert_eq!(changed, made);
+        }
+    }
+}
+
+/// Bytes of a set 2 keyboard one after the other, and the numbers that are not 0 after each.
+#[test]
+fn the_mark_stands_with_the_set() {
+    let locks = [SCROLL_LOCK, INSERT];
+    let mut image = Image::new_on(CodeSet::Two, 9).unwrap();
+    let steps = [
+        (0xF0, vec![codes(SET_2_MARKED)]),
+        (0xF0, vec![codes(SET_2_MARKED)]),
+        (0x12, vec![codes(SET_2)]),
+        (0xE0, vec![codes(SET_2), prefix(E0), E0_OPEN]),
+        (0xF0, vec![codes(SET_2_MARKED), prefix(E0), E0_OPEN]),
+        (0xE1, vec![codes(SET_2), prefix(E1), E1_OPEN]),
+        (0x14, vec![codes(SET_2), prefix(E1_1D), E1_OPEN]),
+        (0xF0, vec![codes(SET_2_MARKED), prefix(E1_1D), E1_OPEN]),
+        (0xFA, vec![codes(SET_2_MARKED), prefix(E1_1D), E1_OPEN]),
+        (0x00, vec![codes(SET_2)]),
+        (0xF0, vec![codes(SET_2_MARKED)]),
+        (0x47, vec![codes(SET_2), prefix(E0), E0_OPEN]),
+        (0x14, vec![codes(SET_2), RIGHT_CTRL, CTRL]),
+    ];
+    for (byte, expected) in steps {
+        image.key(byte);
+        let expected = bytes_with(&[expected.as_slice(), &locks].concat());
+        assert_eq!(standing(&image.bytes), standing(&expected), "{byte:02X}");
+    }
+}
+
 /// One bit of the flag bytes among zeros: one that is read is that flag, and shown with what follows
 /// from it; one that is not read is none.
 #[test]
@@ -204,6 +261,7 @@ fn words_go_round_fifteen_places() {
         }
         assert_eq!(image.bytes[WORDS + 30..WORDS + 32], [0, 0]);
         assert!(image.bytes[HEAD] < 15);
+        assert_eq!(image.bytes[HEAD + 1..COUNT], [0; 7]);
         let place = WORDS + 2 * (usize::from(number) - 1) % 30;
         assert_eq!(image.bytes[place..place + 2], [number, number]);
     }

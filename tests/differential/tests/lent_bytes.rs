@@ -2,32 +2,30 @@
 //! the report of a call refused by 2 to 5, which is told like any other event. A call that is run
 //! changes the image and the first 44 bytes of the buffer, and nothing before, between or behind.
 
-use differential::{Image, Pair, Tagged};
+use differential::{Image, Pair, Tagged, IMAGE_LENGTH};
 use reference::frame::{PARITY_BIT, STOP_BIT};
-use reference::generator::{in_turn, random_events, random_inputs, Random, FLAVOURS};
-use reference::{report, write_frame, Event, Outcome, REPORT_LENGTH};
+use reference::generator::{random_events, random_inputs, random_lists, Random, FLAVOURS};
+use reference::{report, write_frame, CodeSet, Event, Input, Outcome, CODE_SETS, REPORT_LENGTH};
+use std::collections::BTreeSet;
 
 /// Services in use that each refusal is tried on.
 const SERVICES: usize = 256;
 /// Bytes on either side of what is lent.
 const MARGIN: usize = 64;
+/// An image stands at a multiple of this.
+const ALIGNMENT: usize = 8;
 const TAGS: [u8; 6] = *b"KCPTER";
 /// The functions of int 16h that are not refused by 2.
 const FUNCTIONS: [u8; 8] = [0x00, 0x10, 0x01, 0x11, 0x02, 0x12, 0x03, 0x05];
 
-/// Services after random lists of every flavour, from every setting of the locks.
+/// Services after random lists of every flavour, from either code set and every setting of the locks.
 fn services_in_use() -> Vec<Pair> {
-    let mut random = Random::new(9);
-    let in_use = |number: usize| {
-        let (flavour, locks) = in_turn(number);
-        let mut pair = Pair::new(locks);
-        let length = random.below(150);
-        for event in random_events(&mut random, flavour, length) {
-            pair.event(&event);
-        }
+    let in_use = |(set, locks, inputs): (CodeSet, u8, Vec<Input>)| {
+        let mut pair = Pair::new_on(set, locks);
+        inputs.iter().for_each(|input| pair.input(input));
         pair
     };
-    (0..SERVICES).map(in_use).collect()
+    random_lists(9, SERVICES, 149).map(in_use).collect()
 }
 
 /// Bytes of which no two neighbours are alike, so that a byte moved is seen too.
@@ -94,8 +92,10 @@ fn refusal_1_keeps_every_byte() {
     for pair in services_in_use() {
         let mut image = pair.image.clone();
         for locks in 16..=255 {
-            assert_eq!(image.make(locks), 1);
-            assert_eq!(image, pair.image);
+            for set in CODE_SETS {
+                assert_eq!(image.make_on(set, locks), 1);
+                assert_eq!(image, pair.image);
+            }
         }
     }
 }
@@ -254,17 +254,55 @@ fn neighbours_of_the_image_are_kept() {
     let margin: [u8; MARGIN] = memory(MARGIN).try_into().unwrap();
     let mut random = Random::new(80);
     for pair in services_in_use() {
+        let set = pair.image.set();
         let mut amid = Amid {
             before: margin,
             image: pair.image,
             after: margin,
         };
         let flavour = random.pick(&FLAVOURS);
-        for input in random_inputs(&mut random, flavour, 200) {
+        for input in random_inputs(&mut random, flavour, set, 200) {
             amid.image.input(&input);
             amid.image.report_of(&input);
-            amid.image.make(random.byte());
+            amid.image.make_on(random.pick(&CODE_SETS), random.byte());
+            if random.below(16) == 0 {
+                amid.image.resynchronise();
+            }
         }
         assert_eq!((amid.before, amid.after), (margin, margin));
+    }
+}
+
+/// An image and a gap behind it.
+#[repr(C)]
+#[derive(Clone, Debug, PartialEq, Eq)]
+struct Spaced {
+    image: Image,
+    gap: [u8; ALIGNMENT],
+}
+
+/// Images in a row stand at addresses of every kind that the alignment allows. Each in turn is given a
+/// list; it shows what an image that stands alone shows, and the others and the gaps are kept.
+#[test]
+fn images_stand_at_any_multiple_of_eight() {
+    let mut random = Random::new(81);
+    let gap: [u8; ALIGNMENT] = memory(ALIGNMENT).try_into().unwrap();
+    let alone: Vec<Image> = services_in_use()
+        .into_iter()
+        .map(|pair| pair.image)
+        .collect();
+    let spaced = |image: Image| Spaced { image, gap };
+    let mut row: Vec<Spaced> = alone.iter().cloned().map(spaced).collect();
+    let kind = |spaced: &Spaced| &spaced.image as *const Image as usize % IMAGE_LENGTH;
+    let kinds: BTreeSet<usize> = row.iter().map(kind).collect();
+    assert!(kinds.into_iter().eq((0..IMAGE_LENGTH).step_by(ALIGNMENT)));
+    for (place, mut expected) in alone.into_iter().enumerate() {
+        let mut others = row.clone();
+        let flavour = random.pick(&FLAVOURS);
+        for input in random_inputs(&mut random, flavour, expected.set(), 50) {
+            assert_eq!(row[place].image.input(&input), expected.input(&input));
+        }
+        others[place].image = expected;
+        assert_eq!(row, others);
     }
 }

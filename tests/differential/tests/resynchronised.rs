@@ -1,14 +1,16 @@
-//! Demand 3, run for real: after any first list, the all-up run, E and R, a service cannot be told
-//! from one newly made with the locks that stand. Its image is that of the new one byte for byte,
-//! and on a random further list both show the same, event by event. The one call for it leaves the same image.
+//! Demand 3, run for real: after any first list, the all-up run of the code set in force, E and R, a
+//! service cannot be told from one newly made on that set with the locks that stand. Its image is that
+//! of the new one byte for byte, and on a random further list both show the same, event by event. The one
+//! call for it leaves the same image.
 //!
 //! Calls that are turned away by refusal 9 stand before any event: of the first lists, of the all-up
 //! run, before and after its E and R, and of the further lists of either service. So do refused frames,
-//! and keyboard bytes come as frames or by themselves, those of the run too.
+//! and keyboard bytes come as frames or by themselves, those of the run too. First lists start on either
+//! set. They and the further lists hold changes of set; between the run's first byte and its R is none.
 
-use differential::{Image, Reported};
+use differential::{codes, Image, Reported};
 use reference::generator::{all_up_inputs, in_turn, random_inputs, Random};
-use reference::{Event, Input, Outcome, REPORT_LENGTH};
+use reference::{set_after, CodeSet, Event, Input, Outcome, REPORT_LENGTH};
 
 const FIRST_LISTS: usize = 32_000;
 const LONGEST_FIRST: usize = 200;
@@ -39,9 +41,9 @@ fn run(image: &mut Image, random: &mut Random, inputs: &[Input]) -> Option<Outco
     last
 }
 
-/// A service newly made with the locks that stand in this one.
+/// A service newly made with the code set and the locks that stand in this one.
 fn new_like(used: &Image) -> Image {
-    Image::new(used.flag_bytes()[0] >> 4).unwrap()
+    Image::new_on(used.set(), used.flag_bytes()[0] >> 4).unwrap()
 }
 
 /// What an input shows, and the report of what it feeds.
@@ -64,25 +66,37 @@ fn assert_same_from_now_on(mut used: Image, mut new: Image, random: &mut Random,
 #[test]
 fn any_first_list_is_forgotten() {
     let mut random = Random::new(3);
-    let mut marked = 0;
+    let (mut left, mut on_set_2, mut marked, mut changed) = (0, 0, 0, 0);
     for list in 0..FIRST_LISTS {
-        let (flavour, locks) = in_turn(list);
-        let mut used = Image::new(locks).unwrap();
+        let (flavour, made_on, locks) = in_turn(list);
+        let mut used = Image::new_on(made_on, locks).unwrap();
         let length = random.below(LONGEST_FIRST + 1);
-        let first = random_inputs(&mut random, flavour, length);
+        let first = random_inputs(&mut random, flavour, made_on, length);
+        let set = set_after(made_on, &first);
         run(&mut used, &mut random, &first);
-        marked += usize::from(used != new_like(&used));
+        assert_eq!(used.set(), set, "after {first:?}");
+        left += usize::from(used != new_like(&used));
+        on_set_2 += usize::from(set == CodeSet::Two);
+        changed += usize::from(set != made_on);
+        marked += usize::from(used.codes() == codes::SET_2_MARKED);
 
         let mut at_once = used.clone();
         let shown = at_once.resynchronise();
-        let all_up = all_up_inputs(&mut random);
+        let all_up = all_up_inputs(&mut random, set);
         assert_eq!(run(&mut used, &mut random, &all_up), Some(shown));
         assert_eq!(used, at_once, "one call does what the run, E and R do");
+        assert_eq!(used.set(), set, "after {first:?}");
         let new = new_like(&used);
         assert_eq!(used, new, "after {first:?}");
-        let further = random_inputs(&mut random, flavour, FURTHER_EVENTS);
+        let further = random_inputs(&mut random, flavour, set, FURTHER_EVENTS);
         assert_same_from_now_on(used, new, &mut random, &further);
     }
-    println!("{FIRST_LISTS} first lists are forgotten; {marked} of them had left a mark");
-    assert!(marked > FIRST_LISTS / 2, "there was something to forget");
+    println!(
+        "{FIRST_LISTS} first lists are forgotten; {left} of them had left something, {on_set_2} ended on \
+         set 2, {changed} on another set than they started from, and {marked} behind a mark"
+    );
+    assert!(left > FIRST_LISTS / 2, "there was something to forget");
+    assert!(on_set_2 > FIRST_LISTS / 4, "runs of set 2 were tried");
+    assert!(changed > FIRST_LISTS / 8, "lists changed the set");
+    assert!(marked > FIRST_LISTS / 40, "marks were open");
 }

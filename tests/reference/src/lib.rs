@@ -18,10 +18,12 @@ pub mod report;
 pub mod rows;
 pub mod service;
 pub mod stored;
+pub mod translation;
 pub mod vectors;
 
 pub use frame::{read_frame, write_frame};
-pub use input::Input;
+pub use input::{set_after, Input};
 pub use pack::{read_event, Event, MAXIMUM_PACK};
 pub use report::{report, trace, REPORT_LENGTH};
 pub use service::{Outcome, Service};
+pub use translation::{CodeSet, Translation, CODE_SETS};

@@ -10,6 +10,7 @@ use crate::prefix::{Meaning, Prefix};
 use crate::queue::Queue;
 use crate::report::{report, REPORT_LENGTH};
 use crate::rows::{self, Row};
+use crate::translation::{CodeSet, Translation};
 
 /// What is seen of an event.
 #[derive(Clone, Copy, Debug, PartialEq, Eq)]
@@ -24,6 +25,7 @@ pub struct Outcome {
 
 #[derive(Clone, Debug, PartialEq, Eq)]
 pub struct Service {
+    translation: Translation,
     flags: Flags,
     prefix: Prefix,
     /// The number typed on the keypad under Alt.
@@ -33,20 +35,27 @@ pub struct Service {
 }
 
 impl Service {
-    /// A new service; the refusal's number for lock bits above 15.
+    /// A new service on set 1; the refusal's number for lock bits above 15.
     pub fn new(locks: u8) -> Result<Service, u8> {
+        Service::on_set(CodeSet::One, locks)
+    }
+
+    /// A new service on either set, refused as on set 1.
+    pub fn on_set(set: CodeSet, locks: u8) -> Result<Service, u8> {
         if locks > 15 {
             return Err(answer::LOCKS_TOO_LARGE);
         }
         Ok(Service {
+            translation: Translation::new(set),
             flags: Flags::new(locks),
             ..Service::unlocked()
         })
     }
 
-    /// A new service with no lock on.
+    /// A new service on set 1 with no lock on.
     pub const fn unlocked() -> Service {
         Service {
+            translation: Translation::new(CodeSet::One),
             flags: Flags::new(0),
             prefix: Prefix::Closed,
             alt_sum: 0,
@@ -60,7 +69,7 @@ impl Service {
     pub fn event(&mut self, event: &Event) -> Outcome {
         let sent_before = self.line.sent();
         let answer = match *event {
-            Event::Key(byte) => self.key(byte),
+            Event::Key(byte) => self.keyboard_byte(byte),
             Event::Call(function, a, b) => self.call(function, a, b),
             Event::Poll => self.line.poll(self.flags.lamps()),
             Event::TimeOut => self.line.time_out(),
@@ -84,10 +93,18 @@ impl Service {
         }
     }
 
+    /// The keyboard's codes are of this set from now on. Nothing but an open mark is lost, also where
+    /// the set stays; the string of a prefix may go on in the codes of the other set.
+    pub fn change(&mut self, set: CodeSet) -> Outcome {
+        self.translation = Translation::new(set);
+        self.outcome(Answer::plain(answer::NOTHING), self.line.sent())
+    }
+
     pub fn input(&mut self, input: &Input) -> Outcome {
         match *input {
             Input::Event(event) => self.event(&event),
             Input::Frame(frame) => self.frame(frame),
+            Input::Change(set) => self.change(set),
         }
     }
 
@@ -109,6 +126,16 @@ impl Service {
             self.prefix.bits() | self.flags.right_keys(),
             self.line.byte_97(),
         ]
+    }
+
+    /// The set in force.
+    pub fn set(&self) -> CodeSet {
+        self.translation.set()
+    }
+
+    /// The set in force and whether a mark is open.
+    pub fn translation(&self) -> Translation {
+        self.translation
     }
 
     /// The number typed so far under Alt; 0 whenever no Alt is down.
@@ -133,6 +160,14 @@ impl Service {
     fn restart(&mut self) -> Answer {
         self.line = Line::new();
         Answer::plain(answer::DONE)
+    }
+
+    /// Every byte of the keyboard passes here, however it came. All further steps see set 1 alone.
+    fn keyboard_byte(&mut self, byte: u8) -> Answer {
+        match self.translation.read(byte) {
+            Some(byte) => self.key(byte),
+            None => Answer::plain(answer::NOTHING),
+        }
     }
 
     /// Steps 1 to 3: replies, overruns and prefixes.

@@ -1,8 +1,8 @@
 //! Frames: which numbers carry which byte, which refusal the others have, and that a service is fed
 //! the bytes of the sound ones alone.
 
-use reference::generator::{in_turn, random_inputs, Random};
-use reference::{read_frame, write_frame, Event, Input, Outcome, Service};
+use reference::generator::random_lists;
+use reference::{read_frame, write_frame, CodeSet, Event, Input, Outcome, Service};
 
 const LISTS: usize = 2_000;
 const LONGEST: usize = 200;
@@ -37,14 +37,8 @@ const SPOILED: [(u16, u8); 9] = [
     (0b0_0_00000000_0, 12),
 ];
 
-/// Random lists of every flavour, each with the setting of the locks it starts from.
-fn lists() -> impl Iterator<Item = (u8, Vec<Input>)> {
-    let mut random = Random::new(11);
-    (0..LISTS).map(move |list| {
-        let (flavour, locks) = in_turn(list);
-        let length = random.below(LONGEST + 1);
-        (locks, random_inputs(&mut random, flavour, length))
-    })
+fn lists() -> impl Iterator<Item = (CodeSet, u8, Vec<Input>)> {
+    random_lists(11, LISTS, LONGEST)
 }
 
 #[test]
@@ -107,14 +101,15 @@ fn spoiled_frames_leave_reply_awaited_and_prefix_open() {
 
 #[test]
 fn refused_frames_can_be_taken_out() {
-    for (locks, inputs) in lists() {
-        let mut whole = Service::new(locks).unwrap();
+    for (set, locks, inputs) in lists() {
+        let mut whole = Service::on_set(set, locks).unwrap();
         let mut without = whole.clone();
         for input in &inputs {
             let shown = whole.input(input);
-            match input.fed() {
-                Some(event) => assert_eq!(shown, without.event(&event), "{inputs:X?}"),
-                None => assert_shows_what_stands(&without, &shown),
+            match (input.fed(), input) {
+                (Some(event), _) => assert_eq!(shown, without.event(&event), "{inputs:X?}"),
+                (None, Input::Change(set)) => assert_eq!(shown, without.change(*set)),
+                (None, _) => assert_shows_what_stands(&without, &shown),
             }
         }
         assert_eq!(whole, without, "{inputs:X?}");
@@ -133,9 +128,9 @@ fn assert_shows_what_stands(service: &Service, shown: &Outcome) {
 fn lists_with(reading: Result<u8, u8>) -> usize {
     let is_read_so = |input: &Input| match *input {
         Input::Frame(frame) => read_frame(frame) == reading,
-        Input::Event(_) => false,
+        Input::Event(_) | Input::Change(_) => false,
     };
-    let lists = lists().filter(|(_, inputs)| inputs.iter().any(is_read_so));
+    let lists = lists().filter(|(_, _, inputs)| inputs.iter().any(is_read_so));
     lists.count()
 }
 

@@ -1,21 +1,25 @@
 //! What holds after every event, over random lists.
 
-use reference::generator::{random_events, Random, FLAVOURS};
+use reference::generator::{random_events, typed_on, Random, FLAVOURS};
 use reference::queue::is_enhanced;
-use reference::{report, Event, Outcome, Service, REPORT_LENGTH};
+use reference::{report, Event, Outcome, Service, CODE_SETS, REPORT_LENGTH};
 
 const EVENTS: usize = 200_000;
 
-/// Runs long random lists and shows each step: the service before, the event, its outcome and
-/// the service after.
+/// Runs long random lists, typed on either set, and shows each step: the service before, the event, its
+/// outcome and the service after.
 fn each_step(mut check: impl FnMut(&Service, &Event, &Outcome, &Service)) {
     let mut random = Random::new(16);
     for (place, flavour) in FLAVOURS.into_iter().enumerate() {
-        let mut service = Service::new((5 * place % 16) as u8).unwrap();
-        for event in random_events(&mut random, flavour, EVENTS) {
-            let before = service.clone();
-            let outcome = service.event(&event);
-            check(&before, &event, &outcome, &service);
+        for set in CODE_SETS {
+            let mut service = Service::on_set(set, (5 * place % 16) as u8).unwrap();
+            let events = random_events(&mut random, flavour, EVENTS);
+            let typed = |event| typed_on(&mut random, set, event);
+            for event in events.into_iter().flat_map(typed) {
+                let before = service.clone();
+                let outcome = service.event(&event);
+                check(&before, &event, &outcome, &service);
+            }
         }
     }
 }
@@ -107,6 +111,11 @@ fn only_fifteen_locks_are_made() {
             Ok([locks << 4, 0, 0, 0])
         };
         assert_eq!(flags, expected);
+        for set in CODE_SETS {
+            let made = Service::on_set(set, locks);
+            let shown = made.map(|service| (service.set(), service.flag_bytes()));
+            assert_eq!(shown, expected.map(|flags| (set, flags)));
+        }
     }
 }
 

@@ -1,13 +1,15 @@
-//! After the all-up run, an emptying and a restart, a service is as one newly made with its locks.
-//! Frames stand in every list: sound ones for keyboard bytes, also of the run, and refused ones anywhere.
+//! After the all-up run of the set in force, an emptying and a restart, a service is as one newly made on
+//! that set with its locks. Frames stand in every list: sound ones for keyboard bytes, also of the run,
+//! and refused ones anywhere. Changes of set stand in every list but that of the run.
 
 use reference::generator::{all_up_inputs, in_turn, random_inputs, Random};
-use reference::Service;
+use reference::{set_after, Input, Service, CODE_SETS};
 
 const FIRST_LISTS: usize = 4_000;
 
 fn resynchronise(service: &mut Service, random: &mut Random) {
-    for input in all_up_inputs(random) {
+    for input in all_up_inputs(random, service.set()) {
+        assert!(!matches!(input, Input::Change(_)), "the run has one set");
         service.input(&input);
     }
 }
@@ -16,17 +18,20 @@ fn resynchronise(service: &mut Service, random: &mut Random) {
 fn any_first_list_is_forgotten() {
     let mut random = Random::new(3);
     for list in 0..FIRST_LISTS {
-        let (flavour, locks) = in_turn(list);
-        let mut used = Service::new(locks).unwrap();
+        let (flavour, set, locks) = in_turn(list);
+        let mut used = Service::on_set(set, locks).unwrap();
         let length = random.below(200);
-        for input in random_inputs(&mut random, flavour, length) {
-            used.input(&input);
+        let first = random_inputs(&mut random, flavour, set, length);
+        for input in &first {
+            used.input(input);
         }
+        let set = set_after(set, &first);
+        assert_eq!(used.set(), set, "list {list}");
         resynchronise(&mut used, &mut random);
 
-        let mut new = Service::new(used.flag_bytes()[0] >> 4).unwrap();
+        let mut new = Service::on_set(set, used.flag_bytes()[0] >> 4).unwrap();
         assert_eq!(used, new, "list {list}");
-        for input in random_inputs(&mut random, flavour, 50) {
+        for input in random_inputs(&mut random, flavour, set, 50) {
             assert_eq!(used.input(&input), new.input(&input), "list {list}");
         }
     }
@@ -35,9 +40,11 @@ fn any_first_list_is_forgotten() {
 #[test]
 fn empty_first_list_is_forgotten() {
     let mut random = Random::new(4);
-    for locks in 0..16 {
-        let mut service = Service::new(locks).unwrap();
-        resynchronise(&mut service, &mut random);
-        assert_eq!(service, Service::new(locks).unwrap());
+    for set in CODE_SETS {
+        for locks in 0..16 {
+            let mut service = Service::on_set(set, locks).unwrap();
+            resynchronise(&mut service, &mut random);
+            assert_eq!(service, Service::on_set(set, locks).unwrap());
+        }
     }
 }

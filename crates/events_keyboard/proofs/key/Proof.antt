@@ -1,34 +1,45 @@
 -- The proof of `events_keyboard::key`.
 -- Assumes nothing.
-use borrow.Author.Tests.{eq-eqb, ne-eqb}
-use Rattle.bits.specs.Choice.{if_then_else_}
 use Rattle.events.specs.Keyboard.{keyOf}
 use borrow.Author.Needs.{needs}
 use Rattle.events_keyboard.proofs.key.Statement.{statement}
 use Rattle.events_keyboard.proofs.key.Tie as tie
 
-acknowledge-requires : tie.Need-acknowledge-requires
-acknowledge-requires c κs = search needs
+translate-requires : tie.Need-translate-requires
+translate-requires c κs = search needs
+
+with-codes-requires : tie.Need-with-codes-requires
+with-codes-requires c κs = search needs
+
+enum-told : tie.Need-enum-told
+enum-told c = search needs
+
+answered-requires : tie.Need-answered-requires
+answered-requires c κs = search needs
+
+enum-known-passed : tie.Need-enum-known-passed
+enum-known-passed c = search needs
+
+read-requires : tie.Need-read-requires
+read-requires c κs = search needs
 
 returns : tie.Need-returns
-unfolding keyOf if_then_else_
-returns c = simp (c .acknowledge .ensures, eq-eqb _ _ (c .before .if1 .taken))
-
-resend-requires : tie.Need-resend-requires
-resend-requires c κs = search needs
+unfolding keyOf
+returns c = simp (c .answered .ensures, c .before .enum-told .given .1, ← (c .before .before .before .with-codes .ensures), ← (c .before .before .before .before .translate .ensures))
 
 returns-2 : tie.Need-returns-2
-unfolding keyOf if_then_else_
-returns-2 c = simp (c .resend .ensures, eq-eqb _ _ (c .before .if2 .taken), ne-eqb _ _ (c .before .before .if1 .left))
-
-typed-requires : tie.Need-typed-requires
-typed-requires c κs = search needs
-
-returns-3 : tie.Need-returns-3
-unfolding keyOf if_then_else_
-returns-3 c = simp (c .typed .ensures, ne-eqb _ _ (c .before .if2 .left), ne-eqb _ _ (c .before .before .if1 .left))
+unfolding keyOf
+returns-2 c = simp (c .read .ensures, c .before .before .passed .given .1, ← (c .before .before .before .before .with-codes .ensures), ← (c .before .before .before .before .before .translate .ensures))
 
 pub key-spec : {M : Type 1} → statement M
 key-spec =
     tie.close
-    (tie.spec acknowledge-requires returns resend-requires returns-2 typed-requires returns-3)
+    (tie.spec
+    translate-requires
+    with-codes-requires
+    enum-told
+    answered-requires
+    enum-known-passed
+    read-requires
+    returns
+    returns-2)

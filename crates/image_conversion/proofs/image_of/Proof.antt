@@ -11,6 +11,9 @@ flag-bytes-requires c κs = search needs
 prefix-number-requires : tie.Need-prefix-number-requires
 prefix-number-requires c κs = search needs
 
+input-number-requires : tie.Need-input-number-requires
+input-number-requires c κs = search needs
+
 image-of-requires : tie.Need-image-of-requires
 image-of-requires c κs = search needs
 
@@ -19,7 +22,7 @@ image-of-requires-2 c κs = search needs
 
 returns : tie.Need-returns
 unfolding imageOf
-returns c = simp (c .image-of2 .ensures, ← (c .before .image-of .ensures), ← (c .before .before .prefix-number .ensures), ← (c .before .before .before .flag-bytes .ensures))
+returns c = simp (c .image-of2 .ensures, ← (c .before .image-of .ensures), ← (c .before .before .input-number .ensures), ← (c .before .before .before .prefix-number .ensures), ← (c .before .before .before .before .flag-bytes .ensures))
 
 pub image-of-spec : {M : Type 1} → statement M
 image-of-spec =
@@ -27,6 +30,7 @@ image-of-spec =
     (tie.spec
     flag-bytes-requires
     prefix-number-requires
+    input-number-requires
     image-of-requires
     image-of-requires-2
     returns)

@@ -1,17 +1,22 @@
 -- The proof of `image_conversion::new`.
 -- Assumes nothing.
 use Rattle.image.specs.Image.{newImage}
-use mathlib.Core.Path.{refl}
 use borrow.Author.Needs.{needs}
 use Rattle.image_conversion.proofs.new.Statement.{statement}
 use Rattle.image_conversion.proofs.new.Tie as tie
 
-mul-t3 : tie.Need-mul-t3
-mul-t3 c = search needs
+unmarked-requires : tie.Need-unmarked-requires
+unmarked-requires c κs = search needs
+
+mul-t5 : tie.Need-mul-t5
+mul-t5 c = search needs
+
+input-number-requires : tie.Need-input-number-requires
+input-number-requires c κs = search needs
 
 returns : tie.Need-returns
 unfolding newImage
-returns c = refl
+returns c = simp (c .input-number .ensures, ← (c .before .unmarked .ensures))
 
 pub new-spec : {M : Type 1} → statement M
-new-spec = tie.close (tie.spec mul-t3 returns)
+new-spec = tie.close (tie.spec unmarked-requires mul-t5 input-number-requires returns)

@@ -17,11 +17,20 @@ queue-of-requires c κs = search needs
 line-of-requires : tie.Need-line-of-requires
 line-of-requires c κs = search needs
 
+codes-of-requires : tie.Need-codes-of-requires
+codes-of-requires c κs = search needs
+
 returns : tie.Need-returns
 unfolding serviceOf
-returns c = simp (c .line-of .ensures, ← (c .before .queue-of .ensures), ← (c .before .before .shared-of .ensures), ← (c .before .before .before .port-of .ensures))
+returns c = simp (c .codes-of .ensures, ← (c .before .before .line-of .ensures), ← (c .before .before .before .queue-of .ensures), ← (c .before .before .before .before .shared-of .ensures), ← (c .before .before .before .before .before .port-of .ensures))
 
 pub service-of-spec : {M : Type 1} → statement M
 service-of-spec =
     tie.close
-    (tie.spec port-of-requires shared-of-requires queue-of-requires line-of-requires returns)
+    (tie.spec
+    port-of-requires
+    shared-of-requires
+    queue-of-requires
+    line-of-requires
+    codes-of-requires
+    returns)

@@ -10,8 +10,11 @@ new-requires c κs = search needs
 empty-requires : tie.Need-empty-requires
 empty-requires c κs = search needs
 
+unmarked-requires : tie.Need-unmarked-requires
+unmarked-requires c κs = search needs
+
 returns : tie.Need-returns
-returns c = simp (c .empty .ensures, ← (c .before .new .ensures))
+returns c = simp (c .unmarked .ensures, c .before .empty .ensures, ← (c .before .before .new .ensures))
 
 pub quiet-spec : {M : Type 1} → statement M
-quiet-spec = tie.close (tie.spec new-requires empty-requires returns)
+quiet-spec = tie.close (tie.spec new-requires empty-requires unmarked-requires returns)

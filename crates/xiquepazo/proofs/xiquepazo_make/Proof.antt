@@ -1,5 +1,6 @@
 -- The proof of `xiquepazo::xiquepazo_make`: the walk of `LentWithOne` over `image_events::make`.
 -- Assumes nothing.
+use Rattle.translation.specs.declared.CodeSet.the-variants.{One}
 use Rattle.image_calls.specs.Exports.{makeTo}
 use Rattle.xiquepazo.proofs.ImageTypes.{image, image-name, refused}
 use Rattle.lent_walks.proofs.Plain.{byte}
@@ -13,4 +14,4 @@ use Rattle.xiquepazo.proofs.xiquepazo_make.Statement.{statement}
 pub xiquepazo-make-spec : {M : Type 1} → statement M
 unfolding code.routine
 xiquepazo-make-spec 𝓤 H 𝓜 𝓖 𝓡 =
-    proved image byte byte refused image-name core.name makeTo 𝓤 H 𝓜 𝓖 𝓡 code.env key.name (code.unfolded 𝓤 H 𝓜 𝓡) core.routine code.calls-image-events·make (core-met.met 𝓤 H 𝓜 𝓖 𝓡)
+    proved image byte byte refused image-name core.name (makeTo One) 𝓤 H 𝓜 𝓖 𝓡 code.env key.name (code.unfolded 𝓤 H 𝓜 𝓡) core.routine code.calls-image-events·make (core-met.met 𝓤 H 𝓜 𝓖 𝓡)

@@ -1,38 +1,66 @@
 //! Lists in which keyboard bytes come as frames too, with noise between them.
 
-use super::mixes::{random_events, Flavour};
+use super::mixes::{in_turn, random_events, Flavour};
 use super::random::Random;
-use super::writer::ALL_UP_RUN;
+use super::sets::{all_up_run, with_sets};
 use crate::frame::{read_frame, write_frame, FIRST_DATA_BIT, PARITY_BIT, START_BIT, STOP_BIT};
 use crate::input::Input;
 use crate::pack::Event;
+use crate::translation::CodeSet;
 
-/// A list that feeds at least so many events, with refused frames among them.
-pub fn random_inputs(random: &mut Random, flavour: Flavour, length: usize) -> Vec<Input> {
+/// So many lists for services newly made, each with the set and the locks of its service: every flavour in
+/// turn, then the other set, then the next setting of the locks. None is longer than this.
+pub fn random_lists(
+    seed: u64,
+    lists: usize,
+    longest: usize,
+) -> impl Iterator<Item = (CodeSet, u8, Vec<Input>)> {
+    let mut random = Random::new(seed);
+    (0..lists).map(move |list| {
+        let (flavour, set, locks) = in_turn(list);
+        let length = random.below(longest + 1);
+        let inputs = random_inputs(&mut random, flavour, set, length);
+        (set, locks, inputs)
+    })
+}
+
+/// A list for a service on this set: so many events and changes of set, and refused frames among them.
+/// It may end anywhere, also behind a prefix or a mark.
+pub fn random_inputs(
+    random: &mut Random,
+    flavour: Flavour,
+    set: CodeSet,
+    length: usize,
+) -> Vec<Input> {
     let events = random_events(random, flavour, length);
-    with_frames(random, &events)
+    let mut inputs = with_sets(random, set, &events);
+    inputs.truncate(length);
+    with_frames(random, &inputs)
 }
 
-/// A list that feeds the all-up run, an emptying and a restart.
-pub fn all_up_inputs(random: &mut Random) -> Vec<Input> {
-    let run = ALL_UP_RUN.map(Event::Key);
-    let events = [run.as_slice(), &[Event::Empty, Event::Restart]].concat();
-    with_frames(random, &events)
+/// A list that feeds this set's all-up run, an emptying and a restart.
+pub fn all_up_inputs(random: &mut Random, set: CodeSet) -> Vec<Input> {
+    let run = all_up_run(set).iter().map(|&byte| Event::Key(byte));
+    let events = run.chain([Event::Empty, Event::Restart]);
+    let inputs: Vec<Input> = events.map(Input::Event).collect();
+    with_frames(random, &inputs)
 }
 
-/// A list that feeds these events: two of three keyboard bytes as frames, and before, between and
-/// behind them refused frames.
-fn with_frames(random: &mut Random, events: &[Event]) -> Vec<Input> {
-    let mut inputs = Vec::with_capacity(2 * events.len());
-    add_refused(&mut inputs, random);
-    for &event in events {
-        inputs.push(match event {
-            Event::Key(byte) if random.below(3) > 0 => Input::Frame(write_frame(byte)),
-            _ => Input::Event(event),
+/// A list that does the same as this one: two of three keyboard bytes as frames, and before, between
+/// and behind them refused frames.
+fn with_frames(random: &mut Random, inputs: &[Input]) -> Vec<Input> {
+    let mut framed = Vec::with_capacity(2 * inputs.len());
+    add_refused(&mut framed, random);
+    for &input in inputs {
+        framed.push(match input {
+            Input::Event(Event::Key(byte)) if random.below(3) > 0 => {
+                Input::Frame(write_frame(byte))
+            }
+            _ => input,
         });
-        add_refused(&mut inputs, random);
+        add_refused(&mut framed, random);
     }
-    inputs
+    framed
 }
 
 /// At most places none, at some more than one.

@@ -4,6 +4,7 @@ use super::random::Random;
 use super::writer::{Writer, ENHANCED_KEYS, LOCK_KEYS, MODIFIERS, PAUSE};
 use super::Pack;
 use crate::pack::{Event, MAXIMUM_PACK};
+use crate::translation::{CodeSet, CODE_SETS};
 
 /// What a mix dwells on.
 #[derive(Clone, Copy, Debug)]
@@ -23,11 +24,12 @@ pub const FLAVOURS: [Flavour; 5] = [
     Flavour::Enhanced,
 ];
 
-/// The flavour of a numbered list and the locks it starts from: each flavour in turn, then with the
-/// next setting of the locks.
-pub fn in_turn(number: usize) -> (Flavour, u8) {
-    let locks = number / FLAVOURS.len() % 16;
-    (FLAVOURS[number % FLAVOURS.len()], locks as u8)
+/// The flavour of a numbered list, and the code set and the locks it starts from: each flavour in turn,
+/// then on the other set, then with the next setting of the locks.
+pub fn in_turn(number: usize) -> (Flavour, CodeSet, u8) {
+    let (round, flavour) = (number / FLAVOURS.len(), number % FLAVOURS.len());
+    let (locks, set) = (round / CODE_SETS.len() % 16, round % CODE_SETS.len());
+    (FLAVOURS[flavour], CODE_SETS[set], locks as u8)
 }
 
 impl Flavour {

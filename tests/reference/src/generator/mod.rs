@@ -11,11 +11,13 @@ mod prefixes;
 mod queue;
 mod random;
 mod refused;
+mod sets;
 mod writer;
 
-pub use frames::{all_up_inputs, random_inputs};
+pub use frames::{all_up_inputs, random_inputs, random_lists};
 pub use mixes::{in_turn, random_events, Flavour, FLAVOURS};
 pub use random::Random;
+pub use sets::{all_up_run, typed_on};
 pub use writer::Writer;
 
 use crate::pack::MAXIMUM_PACK;

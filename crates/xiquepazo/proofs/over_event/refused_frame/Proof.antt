@@ -11,9 +11,12 @@ number-requires c κs = search needs
 standing-requires : tie.Need-standing-requires
 standing-requires c κs = search needs
 
+with-answer-requires : tie.Need-with-answer-requires
+with-answer-requires c κs = search needs
+
 returns : tie.Need-returns
 unfolding refusedIn
-returns c = simp (c .standing .ensures, ← (c .before .number .ensures))
+returns c = simp (c .with-answer .ensures, c .before .standing .ensures, ← (c .before .before .number .ensures))
 
 pub refused-frame-spec : {M : Type 1} → statement M
-refused-frame-spec = tie.close (tie.spec number-requires standing-requires returns)
+refused-frame-spec = tie.close (tie.spec number-requires standing-requires with-answer-requires returns)

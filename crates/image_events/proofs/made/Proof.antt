@@ -1,4 +1,4 @@
--- The proof of `image_events::make`.
+-- The proof of `image_events::made`.
 -- Assumes nothing.
 use borrow.Author.Tests.{le-ltb, lt-ltb}
 use Rattle.bits.specs.Choice.{if_then_else_}
@@ -6,8 +6,8 @@ use Rattle.state.specs.State.{makeOf}
 use Rattle.image.proofs.ImageLaws.{made-anew}
 use Rattle.image_calls.specs.Exports.{triedIn}
 use borrow.Author.Needs.{needs}
-use Rattle.image_events.proofs.make.Statement.{statement}
-use Rattle.image_events.proofs.make.Tie as tie
+use Rattle.image_events.proofs.made.Statement.{statement}
+use Rattle.image_events.proofs.made.Tie as tie
 
 returns : tie.Need-returns
 unfolding makeOf triedIn if_then_else_
@@ -20,5 +20,5 @@ returns-2 : tie.Need-returns-2
 unfolding makeOf triedIn if_then_else_
 returns-2 c = simp (c .new .ensures, le-ltb _ _ (c .before .if1 .left), made-anew)
 
-pub make-spec : {M : Type 1} → statement M
-make-spec = tie.close (tie.spec returns new-requires returns-2)
+pub made-spec : {M : Type 1} → statement M
+made-spec = tie.close (tie.spec returns new-requires returns-2)
