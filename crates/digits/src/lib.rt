@@ -1,4 +1,5 @@
-// Hexadecimal digits, upper case. Every number of a text is shown by `digit`, and only this crate divides.
+// Hexadecimal digits, upper case. Every number of a text is shown by `digit`.
+// Contracts say quotient and remainder; the code only shifts and masks, because small processors take long to divide: document 02, W-204.
 ghost use mathlib.Core.Path.{_≡_};
 ghost use Prim.Native.Nat.{_/_, _%_};
 ghost use Rattle.digits.specs.Digits.{digitOf};
@@ -7,14 +8,14 @@ ghost use Rattle.digits.specs.Digits.{digitOf};
 fn high_nibble(byte: u8) -> u8
     ensures { λ r. ⌜ r ≡ byte / 16 ⌝ }
 {
-    byte / 16
+    byte >> 4
 }
 
 // The lower four bits of a byte.
 fn low_nibble(byte: u8) -> u8
     ensures { λ r. ⌜ r ≡ byte % 16 ⌝ }
 {
-    byte % 16
+    byte & 0x0F
 }
 
 // The character of a number from 0 to 15; of a greater one, that of its last digit. Sixteen constant arms are compiled to one load from a table.
@@ -59,12 +60,12 @@ pub fn low(byte: u8) -> u8
 pub fn high_byte(word: u16) -> u8
     ensures { λ r. ⌜ r ≡ word / 256 ⌝ }
 {
-    (word / 256) as u8
+    (word >> 8) as u8
 }
 
 // The byte that a word's last two digits show.
 pub fn low_byte(word: u16) -> u8
     ensures { λ r. ⌜ r ≡ word % 256 ⌝ }
 {
-    (word % 256) as u8
+    (word & 0xFF) as u8
 }
