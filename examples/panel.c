@@ -96,6 +96,7 @@ int main(void)
     static const uint8_t shifted_a[] = {0x2A, 0x1E, 0x9E, 0xAA};
     static const uint8_t keypad_44[] = {0x38, 0x4B, 0xCB, 0x4B, 0xCB, 0xB8};
     static const uint8_t f11_and_a[] = {0x57, 0xD7, 0x1E, 0x9E};
+    static const uint8_t both_homes[] = {0x47, 0xC7, 0xE0, 0x47, 0xE0, 0xC7};
     static const uint8_t caps_lock[] = {0x3A, 0xBA};
     struct xiquepazo_tagged key_b = {'K', 0x30, 0, 0};
     struct xiquepazo_tagged no_function = {'C', 0x99, 0, 0};
@@ -115,6 +116,12 @@ int main(void)
 
     /* An old program gets the a alone. */
     feed(&service, f11_and_a, sizeof f11_and_a);
+    take_words(&service, XIQUEPAZO_TAKE_WORD);
+
+    /* Home on the keypad, then the grey one: to an old program they are one key. */
+    feed(&service, both_homes, sizeof both_homes);
+    take_words(&service, XIQUEPAZO_TAKE_ENHANCED);
+    feed(&service, both_homes, sizeof both_homes);
     take_words(&service, XIQUEPAZO_TAKE_WORD);
 
     feed(&service, caps_lock, sizeof caps_lock);

@@ -54,7 +54,7 @@ enum {
     XIQUEPAZO_OVERRUN = 0x05,      /* the keyboard lost bytes */
     XIQUEPAZO_TAKEN = 0x06,        /* a reply was taken */
     XIQUEPAZO_IGNORED = 0x07,      /* a reply or time-out that was not awaited */
-    XIQUEPAZO_RETURNED = 0x08,     /* `word` is the oldest of the queue that the function may see */
+    XIQUEPAZO_RETURNED = 0x08,     /* `word` is the oldest of the queue that the function may see, by 00 and 01 as old programs know it */
     XIQUEPAZO_NONE = 0x09,         /* the queue is empty now */
     XIQUEPAZO_STATUS = 0x0A,       /* `word` is a status */
     XIQUEPAZO_DONE = 0x0B,         /* functions 03 and 05, E, R, and a time-out that was awaited */
@@ -81,7 +81,10 @@ enum {
     XIQUEPAZO_FRAME_STOP = 13
 };
 
-/* The int 16h functions. 10, 11 and 12 are for programs that know the enhanced keyboard: 00 and 01 remove its words unseen. */
+/*
+ * The int 16h functions. 10, 11 and 12 are for programs that know the enhanced keyboard: 00 and 01 remove the words of F11 and F12 unseen, and
+ * return a grey key's word, 47E0 say, as that of the key without E0, 4700.
+ */
 enum {
     XIQUEPAZO_TAKE_WORD = 0x00,
     XIQUEPAZO_LOOK_AT_WORD = 0x01,
@@ -313,7 +316,10 @@ static inline struct xiquepazo_shown xiquepazo_tag(struct xiquepazo_service *ser
     return xiquepazo_event(service, event);
 }
 
-/* A byte from the keyboard: scan codes of the set in force, and the replies FA and FE to what was sent. Never refused. */
+/*
+ * A byte from the keyboard: scan codes of the set in force, and the replies FA and FE to what was sent. Never refused. A word put or dropped is
+ * shown as it is stored, so the grey keys, which send E0 first, are told from the keys without E0: 47E0 is grey Home, 4700 Home on the keypad.
+ */
 static inline struct xiquepazo_shown xiquepazo_key(struct xiquepazo_service *service, uint8_t byte)
 {
     return xiquepazo_tag(service, 'K', byte, 0, 0);
@@ -323,6 +329,8 @@ static inline struct xiquepazo_shown xiquepazo_key(struct xiquepazo_service *ser
  * Int 16h. 10: the oldest word, removed. 11: the oldest word, left. 00, 01: the same, once the enhanced words at the head of the queue,
  * those with a high byte of 85 or more and a low byte of 00, are removed. 02: status, byte 17. 12: extended status. 03: delay a, rate b.
  * 05: put word a b. Refusals 2 to 5, as ans 82 to 85.
+ * 10 and 11 return the word as it is stored. 00 and 01 return E00D, E00A and E02F as 1C0D, 1C0A and 352F, and 00 for the low byte of any other
+ * word where that is E0 and the high byte is not 00; what 01 leaves stays as it is stored.
  */
 static inline struct xiquepazo_shown xiquepazo_call(struct xiquepazo_service *service, uint8_t function, uint8_t a, uint8_t b)
 {

@@ -1,6 +1,6 @@
 -- What is known of tests that are joined, and a fact about every number below a bound from one test that the checker computes.
 -- Assumes nothing.
-use mathlib.Core.Path.{_≡_, refl, subst, sym}
+use mathlib.Core.Path.{_≡_, refl, subst, sym, _∙_}
 use mathlib.Core.Logic.{⊎-elim}
 use mathlib.Core.Bool.{Bool, true, false, _&&_, _||_, true≢false}
 use Prim.Native.Nat.{ℕ, zero, suc, _<_}
@@ -20,6 +20,10 @@ each-of-four p q r s t =
     let u = and-right p (q && (r && s)) t in
     let v = and-right q (r && s) u in
     (and-left p (q && (r && s)) t, and-left q (r && s) u, and-left r s v, and-right r s v)
+
+-- no test comes out both ways
+pub not-both : {A : Type 0} {test : Bool} → test ≡ true → test ≡ false → A
+not-both holds fails = absurd (true≢false (sym holds ∙ fails))
 
 pub record Neither (a b : Bool) : Type 0 where
   pub first : a ≡ false

@@ -3,15 +3,16 @@
 use Prim.Native.Nat.{ℕ}
 use Rattle.bits.proofs.Choice.{either}
 use Rattle.word.specs.Word.{codeOf, asciiOf, wordWith}
+use Rattle.word.specs.OldWord.{oldWordOf}
 use Rattle.state.specs.declared.Service.{Service}
 use Rattle.answers.specs.declared.Refusal.the-variants as refusal
 use Rattle.answers.specs.declared.Answer.the-variants.{Refused}
 use Rattle.events.specs.declared.Outcome.{Outcome}
 use Rattle.events.specs.Outcomes.{answeredOf}
-use Rattle.events.specs.Functions.{forOldProgram, takeOf, lookOf, statusOf, setRateOf, storeOf, callOf}
+use Rattle.events.specs.Functions.{asStored, forOldProgram, takeOf, lookOf, statusOf, setRateOf, storeOf, callOf}
 
 pub call-by : (P : Outcome → Type 0) (service : Service) (function a b : ℕ)
-    → P (takeOf (forOldProgram service)) → P (lookOf (forOldProgram service)) → P (takeOf service) → P (lookOf service)
+    → P (takeOf oldWordOf (forOldProgram service)) → P (lookOf oldWordOf (forOldProgram service)) → P (takeOf asStored service) → P (lookOf asStored service)
     → ((high low : ℕ) → P (statusOf service high low)) → P (setRateOf service a b) → P (storeOf service (wordWith (codeOf a) (asciiOf b)))
     → P (answeredOf service (Refused refusal.Function)) → P (callOf service function a b)
 unfolding callOf

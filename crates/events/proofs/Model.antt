@@ -2,6 +2,7 @@
 -- Assumes nothing.
 use Rattle.bits.specs.Choice.{if_then_else_}
 use Rattle.bits.specs.Bits.{weightOf, byteOf}
+use Rattle.word.specs.OldWord.{oldWordOf}
 use Rattle.rows.specs.Rows.{rows, extendedRows}
 use Rattle.rows.specs.Column.{isShifted, columnOf}
 use Rattle.rows.specs.Lookup.{entryAt, lookupOf}
@@ -27,7 +28,7 @@ use Rattle.events.specs.Functions.{forOldProgram, takeOf, lookOf, status
 use Rattle.events.specs.Step.{emptyOf, stepOf}
 
 unfoldable pub model : Unit {0}
-unfolding if_then_else_ weightOf byteOf
+unfolding if_then_else_ weightOf byteOf oldWordOf
     rows extendedRows isShifted columnOf entryAt lookupOf
     opened continued readingOf modifiersAfter heldAfter locksAfter flagsChanged digitIn altDigit altEnded
     entryFor wordPut entryPut typed counted entered madeOf onEntry codeRead onReading keyByteOf

@@ -2,9 +2,9 @@
 -- Assumes nothing.
 use Prim.Native.Nat.{ℕ, _<_}
 use native.Mathlib.Omega.{arith}
-use mathlib.Core.Path.{_≡_, refl, sym, _∙_}
+use mathlib.Core.Path.{_≡_, refl, sym, ap, _∙_}
 use mathlib.Core.Bool.{Bool, true, false, _||_}
-use mathlib.Core.List.{List, [], _∷_, _++_}
+use mathlib.Core.List.{List, [], _∷_, _++_, map}
 use lib.Dec.{eqb}
 use lib.ListN.{length}
 use borrow.Author.Tests.{ltb-true, ltb-false, eqb-true}
@@ -12,6 +12,7 @@ use Rattle.bits.specs.Choice.{if_then_else_}
 use Rattle.bits.proofs.Choice.{by-test, either}
 use Rattle.word.specs.declared.Word.{Word}
 use Rattle.word.specs.Word.{codeOf, asciiOf, wordWith}
+use Rattle.word.specs.OldWord.{oldWordOf}
 use Rattle.port.specs.declared.Effect.{Effect}
 use Rattle.port.specs.declared.Effect.the-variants as effect
 use Rattle.port.specs.KeyByte.{keyByteOf}
@@ -37,15 +38,15 @@ use Rattle.state.specs.State.{newService}
 use Rattle.events.specs.Outcomes.{answeredOf, offeredOf}
 use Rattle.events.specs.Keyboard.{breakWord, brokenOf, onEffect, typedOf, readOf, onPassed, keyOf}
 use Rattle.events.specs.Commands.{lineAnswer, onLine, pollOf, acknowledgeOf, resendOf, timeOutOf, restartOf}
-use Rattle.events.specs.Functions.{oldestAnswer, forOldProgram, takeOf, lookOf, statusOf, setRateOf, callOf}
+use Rattle.events.specs.Functions.{asStored, oldestAnswer, forOldProgram, takeOf, lookOf, statusOf, setRateOf, callOf}
 use Rattle.events.specs.Step.{emptyOf, stepOf}
 use Rattle.events.specs.Run.{next, after}
-use Rattle.events.specs.Queued.{foundBy, removes, empties, wordsAfter, Fits, Listed, QueueAsListed, QueueAtMostCapacity}
+use Rattle.events.specs.Queued.{foundBy, returnedBy, removes, empties, wordsAfter, Fits, Listed, QueueAsListed, QueueAtMostCapacity}
 
 -- the words that an event found, what it answers and the queue after it
 record Told (event : Event) (found : List Word) (answer : Answer) (later : Queue) : Type 0 where
   words : wordsOf later ≡ wordsAfter event answer found
-  fits : Fits answer found
+  fits : Fits event answer found
   whole : Whole later
 
 record Tells (event : Event) (found : List Word) (outcome : Outcome) : Type 0 where
@@ -56,7 +57,7 @@ record Tells (event : Event) (found : List Word) (outcome : Outcome) : Type 0 wh
 -- an answer that says nothing of the queue
 record Idle (event : Event) (answer : Answer) : Type 0 where
   words : (list : List Word) → wordsAfter event answer list ≡ list
-  fits : (list : List Word) → Fits answer list
+  fits : (list : List Word) → Fits event answer list
 
 -- the answer 0B of an event that does not empty
 done : {event : Event} → empties event ≡ false → Idle event Done
@@ -75,8 +76,8 @@ same q w h = record { words = sym (h .words (wordsOf q)); fits = h .fits (wordsO
 module _ (event : Event) (kept full : Answer) (service : Service) (word : Word) (w : Whole (service .queue))
     (appends : (list : List Word) → wordsAfter event kept list ≡ list ++ (word ∷ []))
     (drops : (list : List Word) → wordsAfter event full list ≡ list)
-    (room : (list : List Word) → length list < queue.capacity → Fits kept list)
-    (none : (list : List Word) → length list ≡ queue.capacity → Fits full list) where
+    (room : (list : List Word) → length list < queue.capacity → Fits event kept list)
+    (none : (list : List Word) → length list ≡ queue.capacity → Fits event full list) where
   abbrev words-before : List Word
   words-before = wordsOf (service .queue)
 
@@ -162,19 +163,24 @@ key-tells service byte w = passed-tells _ byte (translatedOf (service .codes) by
 
 -- ---- functions
 
+-- a function that returns words so
+abbrev ReturnsBy : Event → (Word → Word) → Type 0
+ReturnsBy event returned = (word : Word) → returnedBy event word ≡ returned word
+
 -- the answer for the first of a list, with the list after it
-oldest-by : (event : Event) (list after : List Word) → (if removes event then restIn list else list) ≡ after
-    → (after ≡ wordsAfter event (oldestAnswer (oldestIn list)) list) × Fits (oldestAnswer (oldestIn list)) list
-oldest-by event [] after e = (sym e ∙ either (λ (l : List Word). l ≡ []) (removes event) [] [] refl refl, refl)
-oldest-by event (word ∷ later) after e = (sym e, refl)
+oldest-by : {returned : Word → Word} (event : Event) (list after : List Word) → ReturnsBy event returned → (if removes event then restIn list else list) ≡ after
+    → (after ≡ wordsAfter event (oldestAnswer returned (oldestIn list)) list) × Fits event (oldestAnswer returned (oldestIn list)) list
+oldest-by event [] after r e = (sym e ∙ either (λ (l : List Word). l ≡ []) (removes event) [] [] refl refl, refl)
+oldest-by event (word ∷ later) after r e = (sym e, ap (λ (first : Word). first ∷ map (returnedBy event) later) (r word))
 
 -- 00 and 10
-take-tells : (event : Event) (service : Service) → removes event ≡ true → Whole (service .queue) → Tells event (wordsOf (service .queue)) (takeOf service)
+take-tells : {returned : Word → Word} (event : Event) (service : Service) → ReturnsBy event returned → removes event ≡ true → Whole (service .queue)
+    → Tells event (wordsOf (service .queue)) (takeOf returned service)
 unfolding takeOf answeredOf if_then_else_
-take-tells event service e w =
+take-tells event service r e w =
     let list = wordsOf (service .queue) in
     let listed = as-listed .take (service .queue) in
-    let by = oldest-by event list (restIn list) (simp e) in
+    let by = oldest-by event list (restIn list) r (simp e) in
     record {
       told =
           record {
@@ -185,12 +191,13 @@ take-tells event service e w =
     }
 
 -- 01 and 11
-look-tells : (event : Event) (service : Service) → removes event ≡ false → Whole (service .queue) → Tells event (wordsOf (service .queue)) (lookOf service)
+look-tells : {returned : Word → Word} (event : Event) (service : Service) → ReturnsBy event returned → removes event ≡ false → Whole (service .queue)
+    → Tells event (wordsOf (service .queue)) (lookOf returned service)
 unfolding lookOf answeredOf if_then_else_
-look-tells event service e w =
+look-tells event service r e w =
     let list = wordsOf (service .queue) in
     let first = as-listed .first (service .queue) in
-    let by = oldest-by event list list (simp e) in
+    let by = oldest-by event list list r (simp e) in
     record { told = record { words = by .0 ∙ rw first; fits = rw first (by .1); whole = w } }
 
 -- an answer of a function that says nothing of the queue
@@ -209,6 +216,15 @@ module _ (service : Service) (function a b : ℕ) where
   unfolding if_then_else_
   all-found d e = simp (d, e)
 
+  -- and return them so
+  old-returned : (eqb function 0x00 || eqb function 0x01) ≡ true → ReturnsBy (Call function a b) oldWordOf
+  unfolding if_then_else_
+  old-returned old word = simp old
+
+  as-stored : eqb function 0x00 ≡ false → eqb function 0x01 ≡ false → ReturnsBy (Call function a b) asStored
+  unfolding if_then_else_
+  as-stored d e word = simp (d, e)
+
 old-whole : (service : Service) → Whole (service .queue) → Whole (forOldProgram service .queue)
 unfolding forOldProgram
 old-whole service w = stays-whole .past (service .queue) w
@@ -218,17 +234,17 @@ call-tells : (service : Service) (function a b : ℕ) → Whole (service .queue)
 unfolding callOf statusOf setRateOf
 call-tells service function a b w =
     by-test (Tells event (foundBy event (wordsOf q))) (eqb function 0x00) _ _
-    (λ d. rw (old-found service function a b (simp d)) (take-tells event (forOldProgram service) (simp d) (old-whole service w)))
+    (λ d. rw (old-found service function a b (simp d)) (take-tells event (forOldProgram service) (old-returned service function a b (simp d)) (simp d) (old-whole service w)))
     (λ d.
     by-test (Tells event (foundBy event (wordsOf q))) (eqb function 0x01) _ _
     (λ e.
     let one = eqb-true function 0x01 e in
-    rw (old-found service function a b (simp one)) (look-tells event (forOldProgram service) (simp one) (old-whole service w)))
+    rw (old-found service function a b (simp one)) (look-tells event (forOldProgram service) (old-returned service function a b (simp one)) (simp one) (old-whole service w)))
     (λ e.
     rw (all-found service function a b d e)
-    (by-test (Tells event (wordsOf q)) (eqb function 0x10) _ _ (λ f. take-tells event service (simp (d, f)) w)
+    (by-test (Tells event (wordsOf q)) (eqb function 0x10) _ _ (λ f. take-tells event service (as-stored service function a b d e) (simp (d, f)) w)
     (λ f.
-    either (Tells event (wordsOf q)) _ _ _ (look-tells event service (simp (d, f)) w)
+    either (Tells event (wordsOf q)) _ _ _ (look-tells event service (as-stored service function a b d e) (simp (d, f)) w)
     (either (Tells event (wordsOf q)) _ _ _ (idle service _ refl (record { words = λ _. refl; fits = λ _. tt }))
     (either (Tells event (wordsOf q)) _ _ _ (idle service _ refl (record { words = λ _. refl; fits = λ _. tt }))
     (either (Tells event (wordsOf q)) _ _ _
@@ -251,7 +267,7 @@ call-tells service function a b w =
 -- ---- every event
 
 step-tells : (service : Service) (event : Event) → Whole (service .queue) → Tells event (foundBy event (wordsOf (service .queue))) (stepOf service event)
-unfolding stepOf pollOf timeOutOf restartOf emptyOf answeredOf
+unfolding stepOf pollOf timeOutOf restartOf emptyOf answeredOf if_then_else_
 step-tells service (Key byte) w = key-tells service byte w
 step-tells service (Call function a b) w = call-tells service function a b w
 step-tells service Poll w = line-tells Poll service _ Taken (record { words = λ _. refl; fits = λ _. tt }) w

@@ -8,6 +8,7 @@ use borrow.Author.Tests.{ltb-false}
 use Rattle.bits.specs.Bits.{byteOf, weightOf}
 use Rattle.bits.proofs.Choice.{by-test, either}
 use Rattle.word.specs.declared.Word.{Word}
+use Rattle.word.specs.OldWord.{oldWordOf}
 use Rattle.port.specs.declared.Effect.{Effect}
 use Rattle.port.specs.declared.Effect.the-variants as effect
 use Rattle.port.specs.KeyByte.{keyByteOf}
@@ -29,7 +30,7 @@ use Rattle.events.specs.declared.Outcome.{Outcome}
 use Rattle.events.specs.Outcomes.{answeredOf, offeredOf}
 use Rattle.events.specs.Keyboard.{brokenOf, onEffect, typedOf, readOf, onPassed, keyOf}
 use Rattle.events.specs.Commands.{ledValue, onLine, pollOf, acknowledgeOf, resendOf, timeOutOf, restartOf}
-use Rattle.events.specs.Functions.{forOldProgram, takeOf, lookOf, statusOf, setRateOf, callOf}
+use Rattle.events.specs.Functions.{asStored, forOldProgram, takeOf, lookOf, statusOf, setRateOf, callOf}
 use Rattle.events.specs.Step.{emptyOf, stepOf}
 use Rattle.events.specs.Sets.{changeOf}
 use Rattle.events.specs.Ranges.{StaysInRange}
@@ -117,22 +118,22 @@ old-in : (service : Service) → InRange service → InRange (forOldProgram serv
 unfolding forOldProgram
 old-in service h = record { queue = queue-stays-in-range .past (service .queue) (h .queue); line = h .line }
 
-take-in : (service : Service) → InRange service → Left (takeOf service)
+take-in : (returned : Word → Word) (service : Service) → InRange service → Left (takeOf returned service)
 unfolding takeOf
-take-in service h = answered-in _ _ (record { queue = queue-stays-in-range .take (service .queue) (h .queue); line = h .line })
+take-in returned service h = answered-in _ _ (record { queue = queue-stays-in-range .take (service .queue) (h .queue); line = h .line })
 
-look-in : (service : Service) → InRange service → Left (lookOf service)
+look-in : (returned : Word → Word) (service : Service) → InRange service → Left (lookOf returned service)
 unfolding lookOf
-look-in service h = answered-in service _ h
+look-in returned service h = answered-in service _ h
 
 call-in : (service : Service) (function a b : ℕ) → InRange service → Left (callOf service function a b)
 unfolding statusOf
 call-in service function a b h =
     call-by Left service function a b
-    (take-in (forOldProgram service) (old-in service h))
-    (look-in (forOldProgram service) (old-in service h))
-    (take-in service h)
-    (look-in service h)
+    (take-in oldWordOf (forOldProgram service) (old-in service h))
+    (look-in oldWordOf (forOldProgram service) (old-in service h))
+    (take-in asStored service h)
+    (look-in asStored service h)
     (λ high low. answered-in service _ h)
     (rate-in service a b h)
     (offered-in service _ _ _ h)

@@ -11,6 +11,7 @@ use Rattle.bits.specs.Choice.{if_then_else_}
 use Rattle.bits.proofs.Choice.{either}
 use Rattle.word.specs.declared.Word.{Word}
 use Rattle.word.specs.Word.{codeOf, asciiOf, wordWith}
+use Rattle.word.specs.OldWord.{oldWordOf}
 use Rattle.port.specs.declared.Effect.{Effect}
 use Rattle.port.specs.declared.Effect.the-variants as effect
 use Rattle.port.specs.KeyByte.{keyByteOf}
@@ -38,7 +39,7 @@ use Rattle.answers.specs.Answers.{ansOf}
 use Rattle.events.specs.Outcomes.{answeredOf, offeredOf}
 use Rattle.events.specs.Keyboard.{brokenOf, onEffect, typedOf, readOf, onPassed, keyOf}
 use Rattle.events.specs.Commands.{lineAnswer, onLine, pollOf, acknowledgeOf, resendOf, timeOutOf, restartOf}
-use Rattle.events.specs.Functions.{oldestAnswer, forOldProgram, takeOf, lookOf, statusOf, setRateOf, callOf}
+use Rattle.events.specs.Functions.{asStored, oldestAnswer, forOldProgram, takeOf, lookOf, statusOf, setRateOf, callOf}
 use Rattle.events.specs.Step.{emptyOf, stepOf}
 use Rattle.events.specs.Run.{shownOf, next, run, after}
 use Rattle.events.specs.Refused.{isRefusal, accepted, RefusedChangeNothing, RefusedCallsChangeNothing, AtMostFive}
@@ -64,9 +65,9 @@ unchanged outcome e few = record { kept = λ _. e; few = few }
 
 -- ---- the answers of keys and of the line
 
-accept-oldest : (oldest : Oldest) → Accepts (oldestAnswer oldest)
-accept-oldest None = record { low = refl }
-accept-oldest (Is word) = record { low = refl }
+accept-oldest : (returned : Word → Word) (oldest : Oldest) → Accepts (oldestAnswer returned oldest)
+accept-oldest returned None = record { low = refl }
+accept-oldest returned (Is word) = record { low = refl }
 
 accept-line : (answer : LineAnswer) (taken : Answer) → Accepts taken → Accepts (lineAnswer answer taken)
 accept-line (line-answer.Send byte) taken h = record { low = refl }
@@ -131,23 +132,23 @@ unfolding answeredOf if_then_else_
 store-keeps service word after h true e = record { kept = λ r. absurd (true≢false (sym r ∙ simp e)); few = simp e }
 store-keeps service word after h false e = record { kept = λ _. ap (withQueue service) (h .kept e); few = simp e }
 
-take-keeps : (before service : Service) → Keeps before (takeOf service)
+take-keeps : (returned : Word → Word) (before service : Service) → Keeps before (takeOf returned service)
 unfolding takeOf answeredOf
-take-keeps before service = accepting (accept-oldest (queue.takeOf (service .queue) .oldest))
+take-keeps returned before service = accepting (accept-oldest returned (queue.takeOf (service .queue) .oldest))
 
-look-keeps : (before service : Service) → Keeps before (lookOf service)
+look-keeps : (returned : Word → Word) (before service : Service) → Keeps before (lookOf returned service)
 unfolding lookOf answeredOf
-look-keeps before service = accepting (accept-oldest (queue.oldestOf (service .queue)))
+look-keeps returned before service = accepting (accept-oldest returned (queue.oldestOf (service .queue)))
 
 call-keeps : (service : Service) (function a b : ℕ) → Keeps service (callOf service function a b)
 unfolding statusOf setRateOf offeredOf answeredOf
 call-keeps service function a b =
     let word = wordWith (codeOf a) (asciiOf b) in
     call-by (Keeps service) service function a b
-    (take-keeps service (forOldProgram service))
-    (look-keeps service (forOldProgram service))
-    (take-keeps service service)
-    (look-keeps service service)
+    (take-keeps oldWordOf service (forOldProgram service))
+    (look-keeps oldWordOf service (forOldProgram service))
+    (take-keeps asStored service service)
+    (look-keeps asStored service service)
     (λ high low. accepting (record { low = refl }))
     (either (Keeps service) _ _ _ (unchanged _ refl refl) (either (Keeps service) _ _ _ (unchanged _ refl refl) (accepting (record { low = refl }))))
     (store-keeps service word (queue.putOf (service .queue) word) (put-unstored (service .queue) word) _ refl)

@@ -11,6 +11,8 @@ use Rattle.bits.proofs.Choice.{either}
 use Rattle.port.specs.declared.Effect.{Effect}
 use Rattle.port.specs.declared.Effect.the-variants as effect
 use Rattle.port.specs.KeyByte.{keyByteOf}
+use Rattle.word.specs.declared.Word.{Word}
+use Rattle.word.specs.OldWord.{oldWordOf}
 use Rattle.queue.specs.declared.Oldest.{Oldest}
 use Rattle.queue.specs.declared.Oldest.the-variants.{None, Is}
 use Rattle.queue.specs.Queue as queue
@@ -40,7 +42,7 @@ use Rattle.answers.specs.Answers.{ansOf}
 use Rattle.events.specs.Outcomes.{answeredOf, offeredOf}
 use Rattle.events.specs.Keyboard.{brokenOf, onEffect, typedOf, readOf, onPassed, keyOf}
 use Rattle.events.specs.Commands.{ledValue, lineAnswer, onLine, pollOf, acknowledgeOf, resendOf, timeOutOf, restartOf}
-use Rattle.events.specs.Functions.{oldestAnswer, forOldProgram, takeOf, lookOf, statusOf, setRateOf, callOf}
+use Rattle.events.specs.Functions.{asStored, oldestAnswer, forOldProgram, takeOf, lookOf, statusOf, setRateOf, callOf}
 use Rattle.events.specs.Step.{emptyOf, stepOf}
 use Rattle.events.specs.Run.{Shown, shownOf, next, run, after}
 use Rattle.events.specs.Sent.{bytesShown, countAt, carriedOn, countsOf, SentIsCounted, SentAtMostSix, ThreeSendsEach}
@@ -135,9 +137,9 @@ answered-right before service answer e w h =
       within = rw e w;
     }
 
-silent-oldest : (oldest : Oldest) → Silent (oldestAnswer oldest)
-silent-oldest None = record { silent = refl }
-silent-oldest (Is word) = record { silent = refl }
+silent-oldest : (returned : Word → Word) (oldest : Oldest) → Silent (oldestAnswer returned oldest)
+silent-oldest returned None = record { silent = refl }
+silent-oldest returned (Is word) = record { silent = refl }
 
 effect-right : (before service : Service) (e : Effect) → service .line ≡ before .line → Within (before .line) → Right before (onEffect service e)
 unfolding onEffect offeredOf brokenOf
@@ -170,22 +172,24 @@ key-right service byte w =
     let r = passed-right (withCodes service (translated .codes)) (translated .passed) w in
     record { sent = r .sent; most = r .most; carried = r .carried; within = r .within }
 
-take-right : (before service : Service) → service .line .phase ≡ before .line .phase → Within (before .line) → Right before (takeOf service)
+take-right : (returned : Word → Word) (before service : Service) → service .line .phase ≡ before .line .phase → Within (before .line)
+    → Right before (takeOf returned service)
 unfolding takeOf
-take-right before service e w = answered-right before _ _ e w (silent-oldest (queue.takeOf (service .queue) .oldest))
+take-right returned before service e w = answered-right before _ _ e w (silent-oldest returned (queue.takeOf (service .queue) .oldest))
 
-look-right : (before service : Service) → service .line .phase ≡ before .line .phase → Within (before .line) → Right before (lookOf service)
+look-right : (returned : Word → Word) (before service : Service) → service .line .phase ≡ before .line .phase → Within (before .line)
+    → Right before (lookOf returned service)
 unfolding lookOf
-look-right before service e w = answered-right before service _ e w (silent-oldest (queue.oldestOf (service .queue)))
+look-right returned before service e w = answered-right before service _ e w (silent-oldest returned (queue.oldestOf (service .queue)))
 
 call-right : (service : Service) (function a b : ℕ) → Within (service .line) → Right service (callOf service function a b)
 unfolding forOldProgram statusOf setRateOf offeredOf waitRateOf
 call-right service function a b w =
     call-by (Right service) service function a b
-    (take-right service (forOldProgram service) refl w)
-    (look-right service (forOldProgram service) refl w)
-    (take-right service service refl w)
-    (look-right service service refl w)
+    (take-right oldWordOf service (forOldProgram service) refl w)
+    (look-right oldWordOf service (forOldProgram service) refl w)
+    (take-right asStored service service refl w)
+    (look-right asStored service service refl w)
     (λ high low. answered-right service _ _ refl w (record { silent = refl }))
     (either (Right service) _ _ _ (answered-right service _ _ refl w (record { silent = refl }))
     (either (Right service) _ _ _ (answered-right service _ _ refl w (record { silent = refl })) (answered-right service _ _ refl w (record { silent = refl }))))

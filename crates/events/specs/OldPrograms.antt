@@ -1,12 +1,14 @@
--- Document 02, W-201, as laws: what functions 00 and 01 answer and leave, and that 10 and 11 know nothing of enhanced words.
+-- Document 02, W-201 and W-205, as laws: what functions 00 and 01 answer and leave, and that 10 and 11 show every word as it is stored.
 -- Assumes nothing.
 use Prim.Native.Nat.{ℕ}
 use mathlib.Core.Path.{_≡_}
 use mathlib.Core.Bool.{false}
 use mathlib.Core.List.{List, [], _∷_, _++_}
 use lib.ListN.{replicate}
+use Rattle.word.specs.declared.Ascii.{Ascii}
 use Rattle.word.specs.declared.Word.{Word}
-use Rattle.word.specs.Word.{isEnhanced, wordFrom}
+use Rattle.word.specs.Word.{codeOf, wordWith, isEnhanced, wordFrom}
+use Rattle.word.specs.OldWord.{oldWordOf}
 use Rattle.queue.specs.Words.{wordsOf, AllEnhanced}
 use Rattle.translation.specs.declared.CodeSet.the-variants.{One}
 use Rattle.state.specs.declared.Service.{Service}
@@ -29,10 +31,16 @@ pub record ReadBy (take look : ℕ) (service : Service) (a b : ℕ) (answer : An
   pub taking : Reads service (stepOf service (Call take a b)) answer taken
   pub looking : Reads service (stepOf service (Call look a b)) answer looked
 
--- 00 and 01 return the first word that is not enhanced; 00 leaves what stood behind it, 01 the word too
+-- 00 and 01 return the first word that is not enhanced, as an old program knows it; 00 leaves what stood behind it, 01 the word too, as it was stored
 abbrev pub FirstOtherIsRead : Type 0
 FirstOtherIsRead = (service : Service) (a b : ℕ) (ahead : List Word) (word : Word) (later : List Word) → wordsOf (service .queue) ≡ ahead ++ word ∷ later
-    → AllEnhanced ahead → isEnhanced word ≡ false → ReadBy 0x00 0x01 service a b (Returned word) later (word ∷ later)
+    → AllEnhanced ahead → isEnhanced word ≡ false → ReadBy 0x00 0x01 service a b (Returned (oldWordOf word)) later (word ∷ later)
+
+-- a character that has no scan code, E0 too, is returned as it is stored
+abbrev pub CharacterIsReadUnaltered : Type 0
+CharacterIsReadUnaltered = (service : Service) (a b : ℕ) (ascii : Ascii) (later : List Word)
+    → let character = wordWith (codeOf 0x00) ascii in wordsOf (service .queue) ≡ character ∷ later
+    → ReadBy 0x00 0x01 service a b (Returned character) later (character ∷ later)
 
 -- a queue of enhanced words alone, however many, is emptied by one 00 and by one 01
 abbrev pub OnlyEnhancedAreRemoved : Type 0

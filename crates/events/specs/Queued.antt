@@ -3,11 +3,12 @@
 use Prim.Native.Nat.{ℕ, _<_, _≤_}
 use mathlib.Core.Path.{_≡_}
 use mathlib.Core.Bool.{Bool, true, false, _||_}
-use mathlib.Core.List.{List, [], _∷_, _++_}
+use mathlib.Core.List.{List, [], _∷_, _++_, map}
 use lib.Dec.{eqb}
 use lib.ListN.{length}
 use Rattle.bits.specs.Choice.{if_then_else_}
 use Rattle.word.specs.declared.Word.{Word}
+use Rattle.word.specs.OldWord.{oldWordOf}
 use Rattle.queue.specs.Queue.{capacity}
 use Rattle.queue.specs.Words.{wordsOf, restIn, pastEnhancedIn}
 use Rattle.translation.specs.declared.CodeSet.{CodeSet}
@@ -22,14 +23,22 @@ use Rattle.events.specs.Keyboard.{breakWord}
 use Rattle.events.specs.Step.{stepOf}
 use Rattle.events.specs.Run.{next, after}
 
+-- functions 00 and 01, by which old programs read
+abbrev pub isOldRead : Event → Bool
+isOldRead (Key byte) = false
+isOldRead (Call function a b) = eqb function 0x00 || eqb function 0x01
+isOldRead Poll = false
+isOldRead TimeOut = false
+isOldRead Empty = false
+isOldRead Restart = false
+
 -- the words that an event finds: 00 and 01 first remove the enhanced words before all others
 abbrev pub foundBy : Event → List Word → List Word
-foundBy (Key byte) words = words
-foundBy (Call function a b) words = if eqb function 0x00 || eqb function 0x01 then pastEnhancedIn words else words
-foundBy Poll words = words
-foundBy TimeOut words = words
-foundBy Empty words = words
-foundBy Restart words = words
+foundBy event words = if isOldRead event then pastEnhancedIn words else words
+
+-- what an event returns for a word that it found
+abbrev pub returnedBy : Event → Word → Word
+returnedBy event word = if isOldRead event then oldWordOf word else word
 
 -- functions 00 and 10 remove the word that they return
 abbrev pub removes : Event → Bool
@@ -69,34 +78,34 @@ wordsAfter event Quiet words = words
 wordsAfter event GivenUp words = words
 wordsAfter event (Refused refusal) words = words
 
--- a word is put below 15 words, dropped or refused at 15, returned as the first; no event is refused as a frame is
-abbrev pub Fits : Answer → List Word → Type 0
-Fits Nothing words = Unit {0}
-Fits (Put word) words = length words < capacity
-Fits (Dropped word) words = length words ≡ capacity
-Fits Break words = Unit {0}
-Fits RestartAsked words = Unit {0}
-Fits Overrun words = Unit {0}
-Fits Taken words = Unit {0}
-Fits Ignored words = Unit {0}
-Fits (Returned word) words = words ≡ word ∷ restIn words
-Fits NoWord words = words ≡ []
-Fits (Status status) words = Unit {0}
-Fits Done words = Unit {0}
-Fits (Stored word) words = length words < capacity
-Fits (Send byte) words = Unit {0}
-Fits Quiet words = Unit {0}
-Fits GivenUp words = Unit {0}
-Fits (Refused refusal.Function) words = Unit {0}
-Fits (Refused refusal.Delay) words = Unit {0}
-Fits (Refused refusal.Rate) words = Unit {0}
-Fits (Refused refusal.Full) words = length words ≡ capacity
-Fits (Refused (refusal.Frame fault)) words = ⊥
+-- a word is put below 15 words, dropped or refused at 15, returned for the first; no event is refused as a frame is
+abbrev pub Fits : Event → Answer → List Word → Type 0
+Fits event Nothing words = Unit {0}
+Fits event (Put word) words = length words < capacity
+Fits event (Dropped word) words = length words ≡ capacity
+Fits event Break words = Unit {0}
+Fits event RestartAsked words = Unit {0}
+Fits event Overrun words = Unit {0}
+Fits event Taken words = Unit {0}
+Fits event Ignored words = Unit {0}
+Fits event (Returned word) words = map (returnedBy event) words ≡ word ∷ map (returnedBy event) (restIn words)
+Fits event NoWord words = words ≡ []
+Fits event (Status status) words = Unit {0}
+Fits event Done words = Unit {0}
+Fits event (Stored word) words = length words < capacity
+Fits event (Send byte) words = Unit {0}
+Fits event Quiet words = Unit {0}
+Fits event GivenUp words = Unit {0}
+Fits event (Refused refusal.Function) words = Unit {0}
+Fits event (Refused refusal.Delay) words = Unit {0}
+Fits event (Refused refusal.Rate) words = Unit {0}
+Fits event (Refused refusal.Full) words = length words ≡ capacity
+Fits event (Refused (refusal.Frame fault)) words = ⊥
 
 -- an event does to the words that it found what its answer says
 pub record Listed (service : Service) (event : Event) : Type 0 where
   pub words : wordsOf (next service event .queue) ≡ wordsAfter event (stepOf service event .answer) (foundBy event (wordsOf (service .queue)))
-  pub fits : Fits (stepOf service event .answer) (foundBy event (wordsOf (service .queue)))
+  pub fits : Fits event (stepOf service event .answer) (foundBy event (wordsOf (service .queue)))
 
 -- so it is at every event of every list from a new service
 abbrev pub QueueAsListed : Type 0

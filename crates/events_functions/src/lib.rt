@@ -1,10 +1,11 @@
 // Int 16h: each function by its own handler, and `call`, which finds it.
 ghost use mathlib.Core.Path.{_≡_};
+ghost use Rattle.word.specs.OldWord.{oldWordOf};
 ghost use Rattle.line.specs.State.{waitRateOf};
 ghost use Rattle.answers.specs.declared.Answer.the-variants.{Done, Refused};
 ghost use Rattle.state.specs.State.{withLine};
 ghost use Rattle.events.specs.Outcomes.{answeredOf};
-ghost use Rattle.events.specs.Functions.{oldestAnswer, forOldProgram, takeOf, lookOf, statusOf, setRateOf, storeOf, callOf};
+ghost use Rattle.events.specs.Functions.{asStored, oldestAnswer, forOldProgram, takeOf, lookOf, statusOf, setRateOf, storeOf, callOf};
 use answers::Answer;
 use answers::Refusal;
 use events::Outcome;
@@ -14,12 +15,23 @@ use state::flags;
 use state::status::status_high;
 use word::Word;
 
-fn oldest_answer(oldest: Oldest) -> Answer
-    ensures { λ r. ⌜ r ≡ oldestAnswer oldest ⌝ }
+// What 10 and 11 answer.
+fn stored_answer(oldest: Oldest) -> Answer
+    ensures { λ r. ⌜ r ≡ oldestAnswer asStored oldest ⌝ }
 {
     match oldest {
         Oldest::None => Answer::NoWord,
         Oldest::Is(word) => Answer::Returned(word),
+    }
+}
+
+// What 00 and 01 answer.
+fn old_answer(oldest: Oldest) -> Answer
+    ensures { λ r. ⌜ r ≡ oldestAnswer oldWordOf oldest ⌝ }
+{
+    match oldest {
+        Oldest::None => Answer::NoWord,
+        Oldest::Is(word) => Answer::Returned(word::as_old(word)),
     }
 }
 
@@ -34,23 +46,42 @@ fn for_old_program(service: Service) -> Service
     service
 }
 
-// 00 and 10.
+// 10.
 fn take(service: Service) -> Outcome
-    ensures { λ r. ⌜ r ≡ takeOf service ⌝ }
+    ensures { λ r. ⌜ r ≡ takeOf asStored service ⌝ }
 {
     let queue = service.queue;
     let taken = queue::take(queue);
     let left = taken.queue;
     let oldest = taken.oldest;
-    events_outcomes::answered(state::with_queue(service, left), oldest_answer(oldest))
+    events_outcomes::answered(state::with_queue(service, left), stored_answer(oldest))
 }
 
-// 01 and 11.
+// 11.
 fn look(service: Service) -> Outcome
-    ensures { λ r. ⌜ r ≡ lookOf service ⌝ }
+    ensures { λ r. ⌜ r ≡ lookOf asStored service ⌝ }
 {
     let queue = service.queue;
-    events_outcomes::answered(service, oldest_answer(queue::first(queue)))
+    events_outcomes::answered(service, stored_answer(queue::first(queue)))
+}
+
+// 00.
+fn take_as_old(service: Service) -> Outcome
+    ensures { λ r. ⌜ r ≡ takeOf oldWordOf (forOldProgram service) ⌝ }
+{
+    let seen = for_old_program(service);
+    let taken = queue::take(seen.queue);
+    let left = taken.queue;
+    let oldest = taken.oldest;
+    events_outcomes::answered(state::with_queue(seen, left), old_answer(oldest))
+}
+
+// 01.
+fn look_as_old(service: Service) -> Outcome
+    ensures { λ r. ⌜ r ≡ lookOf oldWordOf (forOldProgram service) ⌝ }
+{
+    let seen = for_old_program(service);
+    events_outcomes::answered(seen, old_answer(queue::first(seen.queue)))
 }
 
 // 02 and 12: a status of two bytes.
@@ -104,10 +135,10 @@ pub fn call(service: Service, function: u8, a: u8, b: u8) -> Outcome
     ensures { λ r. ⌜ r ≡ callOf service function a b ⌝ }
 {
     if function == 0x00 {
-        return take(for_old_program(service));
+        return take_as_old(service);
     }
     if function == 0x01 {
-        return look(for_old_program(service));
+        return look_as_old(service);
     }
     if function == 0x10 {
         return take(service);

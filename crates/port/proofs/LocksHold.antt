@@ -10,7 +10,7 @@ use Rattle.bits.specs.Choice.{if_then_else_}
 use Rattle.bits.proofs.Choice.{either}
 use Rattle.bits.proofs.Tests.{allBelow, below}
 use Rattle.word.specs.declared.Word.{Word}
-use Rattle.word.specs.Word.{isCode, numberOf}
+use Rattle.word.specs.Word.{isCode}
 use Rattle.rows.specs.declared.Entry.{Entry}
 use Rattle.rows.specs.declared.Entry.the-variants.{NoRow, NoWord, Has}
 use Rattle.port.specs.declared.Prefix.{Prefix}
@@ -27,7 +27,7 @@ use Rattle.port.specs.State.{eitherSide, withPrefix, withSum, resultOf}
 use Rattle.port.specs.Prefix.{opened, continued, readingOf}
 use Rattle.port.specs.Flags.{toggled, bare, locksAfter, flagsChanged}
 use Rattle.port.specs.AltEntry.{altDigit, altEnded}
-use Rattle.port.specs.Makes.{isInsert, wordPut, entryPut, typed, counted, entered, madeOf, entryFor}
+use Rattle.port.specs.Makes.{isInsertWord, isInsert, wordPut, entryPut, typed, counted, entered, madeOf, entryFor}
 use Rattle.port.specs.KeyByte.{onEntry, codeRead, onReading, keyByteOf}
 use Rattle.port.specs.Laws.{LocksKept, LocksHold}
 
@@ -78,7 +78,7 @@ put-keeps port shared code word =
       insert =
           λ n.
           untoggled (shared .locks .insert) (isInsert (port .held) code word)
-          (no-insert (isCode 0x52 (code .scan)) (eqb (numberOf word) 0x5200) (not (port .held .insert)) (ne-eqb (numberOf word) 0x5200 (n word refl)));
+          (no-insert (isCode 0x52 (code .scan)) (isInsertWord word) (not (port .held .insert)) (n word refl));
     }
 
 entry-keeps : (port : Port) (shared : Shared) (code : Code) (entry : Entry) → LocksKept shared (code .scan .0) (entryPut port shared code entry)

@@ -6,7 +6,7 @@ use mathlib.Core.Bool.{Bool, true, false, _&&_, _||_, not}
 use lib.Dec.{eqb}
 use Rattle.bits.specs.Choice.{if_then_else_}
 use Rattle.word.specs.declared.Word.{Word}
-use Rattle.word.specs.Word.{isCode, numberOf}
+use Rattle.word.specs.Word.{isCode}
 use Rattle.port.specs.declared.Prefix.{Prefix}
 use Rattle.port.specs.declared.Prefix.the-variants.{Closed, E0, E1, E1Make, E1Break}
 use Rattle.port.specs.declared.Code.{Code}
@@ -18,6 +18,7 @@ use Rattle.port.specs.State.{eitherSide, newPort, withPrefix, resultOf}
 use Rattle.port.specs.Prefix.{at, pause, pauseBreak}
 use Rattle.port.specs.Flags.{modifiersAfter, flagsPort, flagsShared, flagsChanged}
 use Rattle.port.specs.AltEntry.{altEnded}
+use Rattle.port.specs.Makes.{isInsertWord}
 use Rattle.port.specs.KeyByte.{keyByteOf}
 
 -- whether a byte goes on with the prefix that is open: every byte after E0, the next of a string after E1
@@ -50,12 +51,12 @@ pub record AltSumSettles : Type 0 where
   pub kept : (port : Port) (shared : Shared) (byte : ℕ) → SumSettled port → SumSettled (keyByteOf port shared byte .port)
   pub agree : (port : Port) (shared : Shared) (code : Code) → SumSettled port → flagsChanged port shared code ≡ flagsChangedNarrowly port shared code
 
--- a lock is changed by the byte of its own key alone, Insert by the word 5200 alone
+-- a lock is changed by the byte of its own key alone, Insert by its two words alone
 pub record LocksKept (shared : Shared) (byte : ℕ) (after : Decoded) : Type 0 where
   pub scroll : (byte ≡ 0x46 → ⊥) → after .shared .locks .scroll ≡ shared .locks .scroll
   pub num : (byte ≡ 0x45 → ⊥) → after .shared .locks .num ≡ shared .locks .num
   pub caps : (byte ≡ 0x3A → ⊥) → after .shared .locks .caps ≡ shared .locks .caps
-  pub insert : ((word : Word) → after .effect ≡ Put word → numberOf word ≡ 0x5200 → ⊥) → after .shared .locks .insert ≡ shared .locks .insert
+  pub insert : ((word : Word) → after .effect ≡ Put word → isInsertWord word ≡ false) → after .shared .locks .insert ≡ shared .locks .insert
 
 pub record LocksHold : Type 0 where
   pub kept : (port : Port) (shared : Shared) (byte : ℕ) → byte < 256 → LocksKept shared byte (keyByteOf port shared byte)

@@ -8,6 +8,7 @@ use Rattle.word.specs.declared.Word.{Word}
 use Rattle.word.specs.Word.{isCode, numberOf}
 use Rattle.rows.specs.declared.Entry.{Entry}
 use Rattle.rows.specs.declared.Entry.the-variants.{NoRow, NoWord, Has}
+use Rattle.rows.specs.declared.Selector.{Selector}
 use Rattle.rows.specs.Lookup.{lookupOf}
 use Rattle.port.specs.declared.Code.{Code}
 use Rattle.port.specs.declared.Modifiers.{Modifiers}
@@ -22,15 +23,21 @@ use Rattle.port.specs.declared.Digit.the-variants.{NoDigit, Is}
 use Rattle.port.specs.State.{eitherSide, resultOf, withSum, withPaused}
 use Rattle.port.specs.AltEntry.{altDigit, sumAfter}
 
+-- what chooses the column
+abbrev pub selectorOf : Modifiers → Locks → Selector
+selectorOf m l = record { shift = eitherSide (m .shift); ctrl = eitherSide (m .ctrl); alt = eitherSide (m .alt); caps = l .caps; num = l .num }
+
 -- the row's entry in the column that applies
 unfoldable pub entryFor : Code → Modifiers → Locks → Entry
-entryFor code m l =
-    lookupOf (code .scan) (code .extended)
-    (record { shift = eitherSide (m .shift); ctrl = eitherSide (m .ctrl); alt = eitherSide (m .alt); caps = l .caps; num = l .num })
+entryFor code m l = lookupOf (code .scan) (code .extended) (selectorOf m l)
 
--- the Insert rule: 52 or E0 52 yields 5200 while Ins held is clear
+-- the words of Insert: the keypad's, and the grey key's of document 02, W-205
+abbrev pub isInsertWord : Word → Bool
+isInsertWord word = eqb (numberOf word) 0x5200 || eqb (numberOf word) 0x52E0
+
+-- the Insert rule: 52 or E0 52 yields such a word while Ins held is clear
 abbrev pub isInsert : Held → Code → Word → Bool
-isInsert held code word = isCode 0x52 (code .scan) && eqb (numberOf word) 0x5200 && not (held .insert)
+isInsert held code word = isCode 0x52 (code .scan) && isInsertWord word && not (held .insert)
 
 abbrev pub withInsertHeld : Port → Bool → Port
 withInsertHeld port insert =

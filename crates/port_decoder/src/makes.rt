@@ -31,11 +31,12 @@ pub fn entry_for(code: Code, modifiers: Modifiers, locks: Locks) -> Entry
     rows_tables::lookup(code.scan, code.extended, selector)
 }
 
-// Whether the word is the Insert word, of a key that was up.
+// Whether the word is one of Insert, of a key that was up.
 fn is_insert(held: Held, code: Code, word: Word) -> bool
     ensures { λ r. ⌜ r ≡ isInsert held code word ⌝ }
 {
-    code.scan.is(0x52) & (word::number(word) == 0x5200) & !held.insert
+    let number = word::number(word);
+    code.scan.is(0x52) & ((number == 0x5200) | (number == 0x52E0)) & !held.insert
 }
 
 // The word is put, and the Insert rule is applied.

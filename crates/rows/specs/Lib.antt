@@ -4,3 +4,4 @@ pub mod Column
 pub mod Lookup
 pub mod Ascending
 pub mod Rules
+pub mod GreyKeys

@@ -8,6 +8,7 @@ use mathlib.Core.List.{List, [], _++_, append-assoc, append-nil}
 use lib.ListN.{length, length-append}
 use Rattle.bits.specs.Choice.{if_then_else_}
 use Rattle.bits.proofs.Choice.{by-test}
+use Rattle.bits.proofs.Tests.{not-both}
 use Rattle.state.specs.declared.Service.{Service}
 use Rattle.events.specs.declared.Event.{Event}
 use Rattle.events.specs.Run.{next}
@@ -56,11 +57,6 @@ lines-then-rest (suc n) pack service offset =
 -- printing has ended or goes on
 by-end : {Q : Type 0} (place : Place) → (place .ended ≡ true → Q) → (place .ended ≡ false → Q) → Q
 by-end {Q = Q} place ended goes = by-test (λ (_ : Bool). Q) (place .ended) true false ended goes
-
-not-both : {Q : Type 0} {test : Bool} → test ≡ true → test ≡ false → Q
-not-both ended goes =
-    let z : _≡_ {A = ℕ} 0 1 = cc in
-    absurd (omega arith)
 
 pub part-then-rest : PartThenRest
 part-then-rest pack place =

@@ -10,6 +10,18 @@ pub fn is_enhanced(word: u16) -> bool {
     word >= 0x8500 && word & 0xFF == 0
 }
 
+/// A stored word as 00 and 01 return it: programs that call these know the grey keys by the words of
+/// the keys that have the same codes without E0. In 00E0 the low byte is a character.
+pub fn as_an_old_program_sees(word: u16) -> u16 {
+    match word {
+        0xE00D => 0x1C0D,
+        0xE00A => 0x1C0A,
+        0xE02F => 0x352F,
+        0x0100.. if word & 0xFF == 0xE0 => word & 0xFF00,
+        _ => word,
+    }
+}
+
 #[derive(Clone, Debug)]
 pub struct Queue {
     slots: [u16; SLOTS],
@@ -95,6 +107,40 @@ mod tests {
         for word in [0x0000, 0x8400, 0x84FF, 0x8501, 0x85E0, 0xFF01] {
             assert!(!is_enhanced(word), "{word:04X}");
         }
+    }
+
+    #[test]
+    fn old_programs_see_the_words_they_know() {
+        let seen = [
+            (0x47E0, 0x4700),
+            (0x84E0, 0x8400),
+            (0x01E0, 0x0100),
+            (0x85E0, 0x8500),
+            (0xE0E0, 0xE000),
+            (0xFFE0, 0xFF00),
+            (0xE00D, 0x1C0D),
+            (0xE00A, 0x1C0A),
+            (0xE02F, 0x352F),
+            (0x00E0, 0x00E0),
+            (0xE000, 0xE000),
+            (0xE01C, 0xE01C),
+            (0x1C0D, 0x1C0D),
+            (0x352F, 0x352F),
+        ];
+        for (word, expected) in seen {
+            assert_eq!(as_an_old_program_sees(word), expected, "{word:04X}");
+        }
+    }
+
+    /// One word for each high byte but 00, and those of two keys.
+    #[test]
+    fn old_programs_see_other_words_as_they_are() {
+        let differs = |&word: &u16| as_an_old_program_sees(word) != word;
+        let converted: Vec<u16> = (0..=u16::MAX).filter(differs).collect();
+        let mut expected: Vec<u16> = (0x01..=0xFF).map(|high| high << 8 | 0xE0).collect();
+        expected.extend([0xE00A, 0xE00D, 0xE02F]);
+        expected.sort();
+        assert_eq!(converted, expected);
     }
 
     #[test]

@@ -194,25 +194,32 @@ const fn every_column(words: [u16; 4], above: u16) -> Row {
     }
 }
 
-/// Codes that keep their plain and ctrl words after E0.
-const TAKEN_OVER: [u8; 11] = [
-    0x1C, 0x47, 0x48, 0x49, 0x4B, 0x4D, 0x4F, 0x50, 0x51, 0x52, 0x53,
+/// Codes of the grey keys after E0, with the words alone and under Ctrl.
+const GREY_KEYS: [(u8, u16, Option<u16>); 12] = [
+    (0x1C, 0xE00D, Some(0xE00A)),
+    (0x35, 0xE02F, None),
+    (0x47, 0x47E0, Some(0x77E0)),
+    (0x48, 0x48E0, None),
+    (0x49, 0x49E0, Some(0x84E0)),
+    (0x4B, 0x4BE0, Some(0x73E0)),
+    (0x4D, 0x4DE0, Some(0x74E0)),
+    (0x4F, 0x4FE0, Some(0x75E0)),
+    (0x50, 0x50E0, None),
+    (0x51, 0x51E0, Some(0x76E0)),
+    (0x52, 0x52E0, None),
+    (0x53, 0x53E0, None),
 ];
 
 /// Rows after E0. Plain and shift are the same there, so Shift and locks change nothing.
 const fn extended_rows() -> Rows {
-    let base = rows();
     let mut extended: Rows = [None; 128];
     let mut place = 0;
-    while place < TAKEN_OVER.len() {
-        let code = TAKEN_OVER[place] as usize;
-        if let Some(row) = base[code] {
-            let words = [row.words[PLAIN], row.words[PLAIN], row.words[CTRL], None];
-            extended[code] = Some(Row { words, lock: 0 });
-        }
+    while place < GREY_KEYS.len() {
+        let (code, plain, ctrl) = GREY_KEYS[place];
+        let words = [Some(plain), Some(plain), ctrl, None];
+        extended[code as usize] = Some(Row { words, lock: 0 });
         place += 1;
     }
-    extended[0x35] = Some(low_bytes(0x35, [0x2F, 0x2F, NONE, NONE]));
     extended[0x37] = Some(low_bytes(0x37, [NONE; 4]));
     extended[0x46] = Some(low_bytes(0x46, [NONE; 4]));
     extended
@@ -221,6 +228,7 @@ const fn extended_rows() -> Rows {
 #[cfg(test)]
 mod tests {
     use super::*;
+    use crate::queue::as_an_old_program_sees;
 
     #[test]
     fn counts_rows() {
@@ -245,7 +253,7 @@ mod tests {
     /// Samples at the ends of each run of rows.
     #[test]
     fn holds_printed_words() {
-        let samples: [(u16, [i32; 4]); 14] = [
+        let samples: [(u16, [i32; 4]); 15] = [
             (0x02, [0x0231, 0x0221, -1, 0x7800]),
             (0x03, [0x0332, 0x0340, 0x0300, 0x7900]),
             (0x0B, [0x0B30, 0x0B29, -1, 0x8100]),
@@ -257,13 +265,37 @@ mod tests {
             (0x53, [0x5300, 0x532E, -1, -1]),
             (0x57, [0x8500, 0x8700, 0x8900, 0x8B00]),
             (0x58, [0x8600, 0x8800, 0x8A00, 0x8C00]),
-            (0xE01C, [0x1C0D, 0x1C0D, 0x1C0A, -1]),
-            (0xE04D, [0x4D00, 0x4D00, 0x7400, -1]),
-            (0xE035, [0x352F, 0x352F, -1, -1]),
+            (0xE01C, [0xE00D, 0xE00D, 0xE00A, -1]),
+            (0xE047, [0x47E0, 0x47E0, 0x77E0, -1]),
+            (0xE053, [0x53E0, 0x53E0, -1, -1]),
+            (0xE035, [0xE02F, 0xE02F, -1, -1]),
         ];
         for (code, words) in samples {
             let expected = words.map(|word| u16::try_from(word).ok());
             assert_eq!(row(code).unwrap().words, expected, "{code:04X}");
+        }
+    }
+
+    /// So a word tells which key put it, where one of the two is grey.
+    #[test]
+    fn grey_keys_share_no_word() {
+        let codes = (0x00..0x80).chain(0xE000..0xE080);
+        let words = |code| row(code).map_or([None; 4], |row| row.words);
+        for (grey, ..) in GREY_KEYS {
+            let grey = 0xE000 | u16::from(grey);
+            for other in codes.clone().filter(|&other| other != grey) {
+                let shared = |word: &Option<u16>| word.is_some() && words(other).contains(word);
+                assert!(!words(grey).iter().any(shared), "{grey:04X}, {other:04X}");
+            }
+        }
+    }
+
+    #[test]
+    fn old_programs_see_grey_keys_as_those_without_e0() {
+        for (code, plain, ctrl) in GREY_KEYS {
+            let seen = [Some(plain), ctrl].map(|word| word.map(as_an_old_program_sees));
+            let words = row(code.into()).unwrap().words;
+            assert_eq!(seen, [words[PLAIN], words[CTRL]], "{code:02X}");
         }
     }
 }

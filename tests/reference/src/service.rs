@@ -7,7 +7,7 @@ use crate::input::Input;
 use crate::line::Line;
 use crate::pack::Event;
 use crate::prefix::{Meaning, Prefix};
-use crate::queue::Queue;
+use crate::queue::{as_an_old_program_sees, Queue};
 use crate::report::{report, REPORT_LENGTH};
 use crate::rows::{self, Row};
 use crate::translation::{CodeSet, Translation};
@@ -259,7 +259,7 @@ impl Service {
         let Some(word) = row.words[self.column(row)] else {
             return Answer::plain(answer::NOTHING);
         };
-        if matches!(code, 0x52 | 0xE052) && word == 0x5200 {
+        if matches!(code, 0x52 | 0xE052) && matches!(word, 0x5200 | 0x52E0) {
             self.flags.press_lock(flags::INSERT);
         }
         self.put(word)
@@ -287,14 +287,17 @@ impl Service {
     }
 
     /// The functions of int 16h. Old programs call 00 and 01, which know no enhanced words: those
-    /// ahead of the next word are gone even where 01 only looks.
+    /// ahead of the next word are gone even where 01 only looks. The next word is converted as it is
+    /// handed over, and in the queue it stays as it was put.
     fn call(&mut self, function: u8, a: u8, b: u8) -> Answer {
         if matches!(function, 0x00 | 0x01) {
             self.queue.drop_enhanced();
         }
         match function {
-            0x00 | 0x10 => returned(self.queue.take()),
-            0x01 | 0x11 => returned(self.queue.oldest()),
+            0x00 => returned(self.queue.take().map(as_an_old_program_sees)),
+            0x01 => returned(self.queue.oldest().map(as_an_old_program_sees)),
+            0x10 => returned(self.queue.take()),
+            0x11 => returned(self.queue.oldest()),
             0x02 => Answer::with_word(answer::STATUS, u16::from(self.flags.byte_17())),
             0x12 => {
                 let bytes = [self.flags.extended_status(), self.flags.byte_17()];

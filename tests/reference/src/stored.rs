@@ -4,7 +4,7 @@ use crate::generator::{self, Pack};
 use crate::pack::MAXIMUM_PACK;
 use crate::trace;
 use crate::vectors::{
-    from_hex, BENCH_CASES, ENHANCED_WORDS, EXAMPLE_PACK, READINGS, REFUSED_CALLS,
+    from_hex, BENCH_CASES, ENHANCED_WORDS, EXAMPLE_PACK, GREY_KEYS, READINGS, REFUSED_CALLS,
 };
 use std::collections::BTreeMap;
 
@@ -38,13 +38,16 @@ impl Stored {
     }
 }
 
-/// The vectors, a pack that is too long, and some of the generated packs.
+/// The vectors, a pack that is too long, those for grey keys, and some of the generated packs.
 fn stored() -> Vec<Stored> {
     let mut stored = vec![Stored::new("example", from_hex(EXAMPLE_PACK))];
     let vectors = READINGS.iter().chain(&BENCH_CASES);
     let vectors = vectors.chain(&REFUSED_CALLS).chain(&ENHANCED_WORDS);
+    let vectors = vectors.chain(&GREY_KEYS);
     stored.extend(vectors.map(|vector| Stored::new(vector.name, vector.bytes())));
     stored.push(Stored::new("over-length", vec![b'P'; MAXIMUM_PACK + 1]));
+    let named = |pack: Pack| Stored::new(pack.kind, pack.bytes);
+    stored.extend(generator::kept_for_grey_keys().into_iter().map(named));
     stored.extend(kept_of_generated());
     stored
 }

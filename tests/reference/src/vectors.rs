@@ -159,7 +159,7 @@ pub const BENCH_CASES: [Vector; 13] = [
     Vector::new(
         "bench-num-extended",
         "4B454BC54BE04B47",
-        (0x01, 0x4700, 0x20000000, 0),
+        (0x01, 0x47E0, 0x20000000, 0),
     ),
     Vector::new("bench-cut-pause", "4BE14B1E", (0x01, 0x1E61, 0x00000000, 0)),
     Vector::new(
@@ -209,7 +209,7 @@ pub const ENHANCED_WORDS: [Vector; 27] = [
     Vector::new("look-at-84FF", "430584FF43010000", (0x08, 0x84FF, 0, 0)),
     Vector::new("look-at-8500", "4305850043010000", (0x09, 0x0000, 0, 0)),
     Vector::new("look-at-8501", "4305850143010000", (0x08, 0x8501, 0, 0)),
-    Vector::new("look-at-85E0", "430585E043010000", (0x08, 0x85E0, 0, 0)),
+    Vector::new("look-at-85E0", "430585E043010000", (0x08, 0x8500, 0, 0)),
     Vector::new("look-at-8C00", "43058C0043010000", (0x09, 0x0000, 0, 0)),
     Vector::new("look-at-FF00", "4305FF0043010000", (0x09, 0x0000, 0, 0)),
     Vector::new("take-of-84FF", "430584FF43000000", (0x08, 0x84FF, 0, 0)),
@@ -259,6 +259,88 @@ pub const ENHANCED_WORDS: [Vector; 27] = [
         "sixteenth-enhanced",
         "4B574B574B574B574B574B574B574B574B574B574B574B574B574B574B574B58",
         (0x02, 0x8600, 0, 0),
+    ),
+];
+
+/// The grey keys: their words as put and as each function returns them, words of their form from
+/// elsewhere, and Insert.
+pub const GREY_KEYS: [Vector; 21] = [
+    Vector::new("extended-4C", "4BE04B4C", (0x00, 0x0000, 0x00000000, 0)),
+    Vector::new(
+        "grey-home-ctrl",
+        "4B1D4BE04B47",
+        (0x01, 0x77E0, 0x04010000, 0),
+    ),
+    Vector::new(
+        "take-of-grey-home",
+        "4BE04B4743000000",
+        (0x08, 0x4700, 0, 0),
+    ),
+    Vector::new(
+        "look-leaves-grey-home",
+        "4BE04B474301000043110000",
+        (0x08, 0x47E0, 0, 0),
+    ),
+    Vector::new(
+        "enhanced-take-of-grey-home",
+        "4BE04B4743100000",
+        (0x08, 0x47E0, 0, 0),
+    ),
+    Vector::new(
+        "take-of-grey-home-ctrl",
+        "4B1D4BE04B4743000000",
+        (0x08, 0x7700, 0x04010000, 0),
+    ),
+    Vector::new(
+        "enhanced-look-at-grey-enter",
+        "4BE04B1C43110000",
+        (0x08, 0xE00D, 0, 0),
+    ),
+    Vector::new(
+        "take-of-grey-enter",
+        "4BE04B1C43000000",
+        (0x08, 0x1C0D, 0, 0),
+    ),
+    Vector::new(
+        "look-at-grey-enter-ctrl",
+        "4B1D4BE04B1C43010000",
+        (0x08, 0x1C0A, 0x04010000, 0),
+    ),
+    Vector::new(
+        "enhanced-look-at-grey-slash",
+        "4BE04B3543110000",
+        (0x08, 0xE02F, 0, 0),
+    ),
+    Vector::new(
+        "take-of-grey-slash",
+        "4BE04B3543000000",
+        (0x08, 0x352F, 0, 0),
+    ),
+    Vector::new("take-of-1EE0", "43051EE043000000", (0x08, 0x1E00, 0, 0)),
+    Vector::new("look-at-E0E0", "4305E0E043010000", (0x08, 0xE000, 0, 0)),
+    Vector::new("take-of-85E0", "430585E043000000", (0x08, 0x8500, 0, 0)),
+    Vector::new("take-of-E01C", "4305E01C43000000", (0x08, 0xE01C, 0, 0)),
+    Vector::new("take-of-00E0", "430500E043000000", (0x08, 0x00E0, 0, 0)),
+    Vector::new(
+        "take-of-alt-sum-E0",
+        "4B384B504B504B4B4BB843000000",
+        (0x08, 0x00E0, 0, 0),
+    ),
+    Vector::new("num-insert", "4B454BC54B52", (0x01, 0x5230, 0x20000000, 0)),
+    Vector::new(
+        "num-grey-insert",
+        "4B454BC54BE04B52",
+        (0x01, 0x52E0, 0xA0800000, 0),
+    ),
+    Vector::new(
+        "grey-insert-held",
+        "4BE04B524B52",
+        (0x01, 0x5200, 0x80800000, 0),
+    ),
+    Vector::new(
+        "grey-insert-dropped",
+        "4B394B394B394B394B394B394B394B394B394B394B394B394B394B394B394BE04B52",
+        (0x02, 0x52E0, 0x80800000, 0),
     ),
 ];
 

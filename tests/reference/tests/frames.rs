@@ -85,7 +85,7 @@ fn spoiled_frames_leave_reply_awaited_and_prefix_open() {
         (Input::Frame(0b1_0_11100000_0), 0x00, 0x0000, 0x00000250),
         (Input::Frame(0b1_1_01001000_1), 0x8B, 0x0000, 0x00000250),
         (Input::Frame(0b0_1_01001000_0), 0x8D, 0x0000, 0x00000250),
-        (Input::Frame(0b1_1_01001000_0), 0x01, 0x4800, 0x00000050),
+        (Input::Frame(0b1_1_01001000_0), 0x01, 0x48E0, 0x00000050),
     ];
     let mut service = Service::unlocked();
     for (input, ans, word, flags) in steps {

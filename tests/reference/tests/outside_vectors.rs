@@ -1,7 +1,7 @@
 //! The reference against outcomes that are written down.
 
 use reference::vectors::{
-    from_hex, Vector, BENCH_CASES, ENHANCED_WORDS, EXAMPLE_PACK, EXAMPLE_TEXT, READINGS,
+    from_hex, Vector, BENCH_CASES, ENHANCED_WORDS, EXAMPLE_PACK, EXAMPLE_TEXT, GREY_KEYS, READINGS,
     REFUSED_CALLS,
 };
 use reference::{read_event, trace, Event, Outcome, Service};
@@ -53,10 +53,15 @@ fn enhanced_words_hold() {
 }
 
 #[test]
+fn grey_keys_hold() {
+    check_last(&GREY_KEYS);
+}
+
+#[test]
 fn bench_cases_hold_with_locks_made_on() {
     assert_eq!(last_key(4, &[0x2A, 0x1E]).word, 0x1E61);
     assert_eq!(last_key(2, &[0x47]).word, 0x4737);
-    assert_eq!(last_key(2, &[0xE0, 0x47]).word, 0x4700);
+    assert_eq!(last_key(2, &[0xE0, 0x47]).word, 0x47E0);
 }
 
 #[test]

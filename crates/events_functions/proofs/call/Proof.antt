@@ -7,39 +7,33 @@ use borrow.Author.Needs.{needs}
 use Rattle.events_functions.proofs.call.Statement.{statement}
 use Rattle.events_functions.proofs.call.Tie as tie
 
-for-old-program-requires : tie.Need-for-old-program-requires
-for-old-program-requires c κs = search needs
+take-as-old-requires : tie.Need-take-as-old-requires
+take-as-old-requires c κs = search needs
+
+returns : tie.Need-returns
+unfolding callOf if_then_else_
+returns c = simp (c .take-as-old .ensures, eq-eqb _ _ (c .before .if1 .taken))
+
+look-as-old-requires : tie.Need-look-as-old-requires
+look-as-old-requires c κs = search needs
+
+returns-2 : tie.Need-returns-2
+unfolding callOf if_then_else_
+returns-2 c = simp (c .look-as-old .ensures, eq-eqb _ _ (c .before .if2 .taken), ne-eqb _ _ (c .before .before .if1 .left))
 
 take-requires : tie.Need-take-requires
 take-requires c κs = search needs
 
-returns : tie.Need-returns
+returns-3 : tie.Need-returns-3
 unfolding callOf if_then_else_
-returns c = simp (c .take .ensures, ← (c .before .for-old-program .ensures), eq-eqb _ _ (c .before .before .if1 .taken))
-
-for-old-program-requires-2 : tie.Need-for-old-program-requires-2
-for-old-program-requires-2 c κs = search needs
+returns-3 c = simp (c .take .ensures, eq-eqb _ _ (c .before .if3 .taken), ne-eqb _ _ (c .before .before .if2 .left), ne-eqb _ _ (c .before .before .before .if1 .left))
 
 look-requires : tie.Need-look-requires
 look-requires c κs = search needs
 
-returns-2 : tie.Need-returns-2
-unfolding callOf if_then_else_
-returns-2 c = simp (c .look .ensures, ← (c .before .for-old-program2 .ensures), eq-eqb _ _ (c .before .before .if2 .taken), ne-eqb _ _ (c .before .before .before .if1 .left))
-
-take-requires-2 : tie.Need-take-requires-2
-take-requires-2 c κs = search needs
-
-returns-3 : tie.Need-returns-3
-unfolding callOf if_then_else_
-returns-3 c = simp (c .take2 .ensures, eq-eqb _ _ (c .before .if3 .taken), ne-eqb _ _ (c .before .before .if2 .left), ne-eqb _ _ (c .before .before .before .if1 .left))
-
-look-requires-2 : tie.Need-look-requires-2
-look-requires-2 c κs = search needs
-
 returns-4 : tie.Need-returns-4
 unfolding callOf if_then_else_
-returns-4 c = simp (c .look2 .ensures, eq-eqb _ _ (c .before .if4 .taken), ne-eqb _ _ (c .before .before .if3 .left), ne-eqb _ _ (c .before .before .before .if2 .left), ne-eqb _ _ (c .before .before .before .before .if1 .left))
+returns-4 c = simp (c .look .ensures, eq-eqb _ _ (c .before .if4 .taken), ne-eqb _ _ (c .before .before .if3 .left), ne-eqb _ _ (c .before .before .before .if2 .left), ne-eqb _ _ (c .before .before .before .before .if1 .left))
 
 byte17-requires : tie.Need-byte17-requires
 byte17-requires c κs = search needs
@@ -98,15 +92,13 @@ pub call-spec : {M : Type 1} → statement M
 call-spec =
     tie.close
     (tie.spec
-    for-old-program-requires
-    take-requires
+    take-as-old-requires
     returns
-    for-old-program-requires-2
-    look-requires
+    look-as-old-requires
     returns-2
-    take-requires-2
+    take-requires
     returns-3
-    look-requires-2
+    look-requires
     returns-4
     byte17-requires
     status-requires

@@ -11,7 +11,8 @@ const READERS: [u8; 4] = [0x00, 0x01, 0x10, 0x11];
 pub fn add(packs: &mut Vec<Pack>) {
     add_joined(packs, "enhanced-key", keys());
     add_joined(packs, "enhanced-limit", limits());
-    add_joined(packs, "enhanced-mixture", mixtures());
+    let words = [(0x85, 0x00), (0x84, 0x00), (0xFF, 0x00)];
+    add_joined(packs, "enhanced-mixture", mixtures(&words, 4));
     add_joined(packs, "enhanced-turned", turned());
 }
 
@@ -41,10 +42,9 @@ fn limits() -> impl Iterator<Item = Writer> {
     })
 }
 
-/// Every order of four words, enhanced or not, read by every order of three functions.
-fn mixtures() -> impl Iterator<Item = Writer> {
-    let words = [(0x85, 0x00), (0x84, 0x00), (0xFF, 0x00)];
-    choices(words.len(), 4).flat_map(move |order| {
+/// Every order of so many of these words, read by every order of three functions.
+pub fn mixtures(words: &[(u8, u8)], length: u32) -> impl Iterator<Item = Writer> + '_ {
+    choices(words.len(), length).flat_map(move |order| {
         choices(READERS.len(), 3).map(move |functions| {
             let mut case = Writer::new();
             for (high, low) in order.iter().map(|&place| words[place]) {

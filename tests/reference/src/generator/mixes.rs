@@ -1,5 +1,6 @@
 //! Random mixes of events, in which the interesting bytes are frequent.
 
+use super::grey;
 use super::random::Random;
 use super::writer::{Writer, ENHANCED_KEYS, LOCK_KEYS, MODIFIERS, PAUSE};
 use super::Pack;
@@ -14,14 +15,16 @@ pub enum Flavour {
     Queue,
     Everything,
     Enhanced,
+    Grey,
 }
 
-pub const FLAVOURS: [Flavour; 5] = [
+pub const FLAVOURS: [Flavour; 6] = [
     Flavour::Keys,
     Flavour::Line,
     Flavour::Queue,
     Flavour::Everything,
     Flavour::Enhanced,
+    Flavour::Grey,
 ];
 
 /// The flavour of a numbered list, and the code set and the locks it starts from: each flavour in turn,
@@ -40,6 +43,7 @@ impl Flavour {
             Flavour::Queue => "mix-queue",
             Flavour::Everything => "mix",
             Flavour::Enhanced => "mix-enhanced",
+            Flavour::Grey => "mix-grey",
         }
     }
 
@@ -51,23 +55,26 @@ impl Flavour {
             Flavour::Queue => [60, 40, 2, 2, 1, 1],
             Flavour::Everything => [40, 20, 20, 20, 2, 2],
             Flavour::Enhanced => [50, 46, 2, 2, 1, 1],
+            Flavour::Grey => [30, 70, 2, 2, 1, 1],
         }
     }
 
     /// Weights of the kinds of keys, in the order of `key_bytes`.
-    fn keys(self) -> [usize; 9] {
+    fn keys(self) -> [usize; 10] {
         match self {
-            Flavour::Keys => [20, 25, 12, 12, 12, 10, 4, 5, 0],
-            Flavour::Line => [10, 5, 50, 3, 3, 3, 1, 3, 0],
-            Flavour::Queue => [80, 10, 4, 10, 5, 2, 1, 2, 0],
-            Flavour::Everything => [20, 15, 15, 10, 10, 5, 5, 20, 0],
-            Flavour::Enhanced => [20, 15, 2, 5, 5, 2, 1, 2, 60],
+            Flavour::Keys => [20, 25, 12, 12, 12, 10, 4, 5, 0, 0],
+            Flavour::Line => [10, 5, 50, 3, 3, 3, 1, 3, 0, 0],
+            Flavour::Queue => [80, 10, 4, 10, 5, 2, 1, 2, 0, 0],
+            Flavour::Everything => [20, 15, 15, 10, 10, 5, 5, 20, 0, 0],
+            Flavour::Enhanced => [20, 15, 2, 5, 5, 2, 1, 2, 60, 0],
+            Flavour::Grey => [8, 2, 6, 10, 6, 1, 1, 2, 4, 60],
         }
     }
 
     fn call(self, random: &mut Random) -> Event {
         match self {
             Flavour::Enhanced => enhanced_call(random),
+            Flavour::Grey => grey::call(random),
             _ => call(random),
         }
     }
@@ -181,7 +188,8 @@ fn key_bytes(random: &mut Random, flavour: Flavour) -> Vec<u8> {
         5 => random.pick(&strings).to_vec(),
         6 => vec![random.pick(&[0xE0, 0x00, 0xFF, 0x54, 0xD4])],
         7 => vec![random.byte()],
-        _ => vec![random.pick(&ENHANCED_KEYS)],
+        8 => vec![random.pick(&ENHANCED_KEYS)],
+        _ => grey::typed(random),
     }
 }
 

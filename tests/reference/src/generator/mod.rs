@@ -4,6 +4,7 @@
 mod calls;
 mod enhanced;
 mod frames;
+mod grey;
 mod keys;
 mod line;
 mod mixes;
@@ -15,6 +16,7 @@ mod sets;
 mod writer;
 
 pub use frames::{all_up_inputs, random_inputs, random_lists};
+pub use grey::kept as kept_for_grey_keys;
 pub use mixes::{in_turn, random_events, Flavour, FLAVOURS};
 pub use random::Random;
 pub use sets::{all_up_run, typed_on};
@@ -36,6 +38,7 @@ pub fn packs() -> Vec<Pack> {
     line::add(&mut packs);
     queue::add(&mut packs);
     enhanced::add(&mut packs);
+    grey::add(&mut packs);
     calls::add(&mut packs);
     refused::add(&mut packs);
     mixes::add(&mut packs);

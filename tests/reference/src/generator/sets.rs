@@ -3,7 +3,7 @@
 use super::random::Random;
 use super::writer::ALL_UP_RUN;
 use crate::input::Input;
-use crate::pack::Event::{self, Key, Poll, Restart, TimeOut};
+use crate::pack::Event::{self, Call, Empty, Key, Poll, Restart, TimeOut};
 use crate::translation::{translated, CodeSet, BREAK, CODE_SETS, MARK};
 
 /// The all-up run as a set 2 keyboard sends it.
@@ -52,8 +52,9 @@ const UNMARKED: [&[u8]; 6] = [
 ];
 
 /// What few lists of most flavours would come to, in the bytes of set 1: keys held and let go, the Alt
-/// sum, a restart asked, a full queue, and commands of six bytes, done and given up.
-const PHRASES: [&[Event]; 10] = [
+/// sum, a restart asked, a full queue, words that are returned as others, and commands of six bytes,
+/// done and given up.
+const PHRASES: [&[Event]; 13] = [
     &[Key(0x2A), Key(0x1E), Key(0x9E), Key(0xAA)],
     &[Key(0xE0), Key(0x1D), Key(0x2E), Key(0xE0), Key(0x9D)],
     &[Key(0x41), Key(0xC1), Key(0x41), Key(0xC1)],
@@ -61,10 +62,46 @@ const PHRASES: [&[Event]; 10] = [
     &[Key(0x54), Key(0xD4), Key(0xE0), Key(0x46)],
     &[Key(0x38), Key(0x51), Key(0xD1), Key(0x52), Key(0xB8)],
     &[Key(0x1D), Key(0x38), Key(0x53), Key(0xB8), Key(0x9D)],
-    &[Key(0x39); 17],
+    &full_queue(),
+    &[
+        Empty,
+        Key(0xE0),
+        Key(0x47),
+        Call(0x11, 0, 0),
+        Call(0x01, 0, 0),
+        Call(0x10, 0, 0),
+    ],
+    &[
+        Empty,
+        Key(0x1D),
+        Key(0xE0),
+        Key(0x1C),
+        Key(0x9D),
+        Call(0x01, 0, 0),
+        Call(0x00, 0, 0),
+    ],
+    &[
+        Empty,
+        Call(0x05, 0x85, 0xE0),
+        Call(0x05, 0x00, 0xE0),
+        Call(0x00, 0, 0),
+        Call(0x00, 0, 0),
+    ],
     &six_bytes(Key(0xFA)),
     &six_bytes(Key(0xFE)),
 ];
+
+/// More words than the queue holds, then grey Insert down and up.
+const fn full_queue() -> [Event; 20] {
+    let mut events = [Key(0x39); 20];
+    let insert = [Key(0xE0), Key(0x52), Key(0xE0), Key(0xD2)];
+    let mut place = 0;
+    while place < insert.len() {
+        events[16 + place] = insert[place];
+        place += 1;
+    }
+    events
+}
 
 /// A lamp command each of whose bytes is sent three times, with the last answer.
 const fn six_bytes(answer: Event) -> [Event; 13] {
@@ -134,7 +171,7 @@ fn add_stretch(inputs: &mut Vec<Input>, random: &mut Random, set: CodeSet, event
     let sent = if fits { set } else { other(set) };
     let odd = set == CodeSet::Two && random.below(3) > 0;
     for &event in events {
-        if random.below(16) == 0 {
+        if random.below(12) == 0 {
             let phrase = random.pick(&PHRASES);
             add_typed(inputs, random, set, phrase);
         }

@@ -1,0 +1,5 @@
+pub mod Rows
+pub mod Queue
+pub mod Port
+pub mod Events
+pub mod Lists
