@@ -1,5 +1,6 @@
 // The service as numbers only, laid out as C lays out structs, for callers that know no enum: the types, what any such numbers mean, and what
-// holds of them. An image of zeros is a service newly made on set 1 with no lock on. The code is in `image_conversion`.
+// holds of them. An image of zeros is a service newly made on set 1 with no lock on. The code is in `image_making`, `image_from_service` and
+// `image_to_service`.
 
 // The flag bytes as the BIOS data area has them. Read from an image, they are the service's modifiers, held bits, locks, pause and marks; the
 // bits that follow from others (either Ctrl, either Alt, an open prefix, a LED command that runs) and those that have no meaning are not read.

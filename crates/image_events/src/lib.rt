@@ -93,11 +93,11 @@ fn run(service: Service, event: Recognised) -> Ran
 pub fn event(image: Image, tagged: Tagged) -> Changed
     ensures { λ r. ⌜ r ≡ eventTo image tagged ⌝ }
 {
-    let service = image_conversion::service_of(image);
+    let service = image_to_service::service_of(image);
     let event = recognise(tagged);
     let ran = run(service, event);
     let after = ran.service;
-    let next = image_conversion::image_of(after);
+    let next = image_from_service::image_of(after);
     let flags = next.flags;
     let shown = shown_with(flags, ran.ans, ran.word, ran.sent);
     if 0x7F < shown.ans {
@@ -114,7 +114,7 @@ fn made(set: CodeSet, image: Image, bits: u8) -> Refused
         return Refused { image, refusal: 1 };
     }
     Refused {
-        image: image_conversion::new(set, bits),
+        image: image_making::new(set, bits),
         refusal: 0,
     }
 }
@@ -135,8 +135,8 @@ pub fn make_set_two(image: Image, bits: u8) -> Refused
 pub fn resynchronise(image: Image) -> Changed
     ensures { λ r. ⌜ r ≡ resynchronisedTo image ⌝ }
 {
-    let set = image_conversion::set_of(image);
-    let fresh = image_conversion::new(set, image.flags.byte17 / 16);
+    let set = image_making::set_of(image);
+    let fresh = image_making::new(set, image.flags.byte17 / 16);
     let flags = fresh.flags;
     Changed {
         image: fresh,

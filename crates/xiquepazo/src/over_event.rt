@@ -118,7 +118,7 @@ pub fn frame(image: Image, frame: u16) -> Changed
 fn change(set: CodeSet, image: Image) -> Changed
     ensures { λ r. ⌜ r ≡ changeTo set image ⌝ }
 {
-    let next = image_conversion::on_set(set, image);
+    let next = image_making::on_set(set, image);
     let status = image_reading::tagged_of(Event::Call(0x02, 0, 0));
     let changed = event_on_copy(next, status);
     let after = changed.image;
