@@ -30,13 +30,13 @@ fn tried(service: Service, made: Made) -> Tried
 pub fn make(service: Service, bits: u8) -> Tried
     ensures { λ r. ⌜ r ≡ madeIn CodeSet.One service bits ⌝ }
 {
-    tried(service, service::make(CodeSet::One, bits))
+    tried(service, service_making::make(CodeSet::One, bits))
 }
 
 pub fn make_set_two(service: Service, bits: u8) -> Tried
     ensures { λ r. ⌜ r ≡ madeIn CodeSet.Two service bits ⌝ }
 {
-    tried(service, service::make(CodeSet::Two, bits))
+    tried(service, service_making::make(CodeSet::Two, bits))
 }
 
 fn stepped(outcome: Outcome) -> Stepped
@@ -68,7 +68,7 @@ pub fn frame(service: Service, frame: u16) -> Stepped
 pub fn change(service: Service, set: CodeSet) -> Stepped
     ensures { λ r. ⌜ r ≡ changeIn service set ⌝ }
 {
-    stepped(service::change(service, set))
+    stepped(service_making::change(service, set))
 }
 
 pub fn report(service: Service, event: Event, buffer: &mut [u8]) -> Tried
@@ -85,7 +85,7 @@ pub fn report(service: Service, event: Event, buffer: &mut [u8]) -> Tried
 pub fn resynchronise(service: Service) -> Stepped
     ensures { λ r. ⌜ r ≡ resynchronisedIn service ⌝ }
 {
-    let settled = service::resynchronise(service);
+    let settled = service_making::resynchronise(service);
     Stepped {
         service: settled,
         answered: Answered {

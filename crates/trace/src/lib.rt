@@ -96,7 +96,7 @@ fn place_at(service: Service, offset: u16) -> Place
 pub fn begin() -> Place
     ensures { λ r. ⌜ r ≡ firstPlace ⌝ }
 {
-    let made = service::make(CodeSet::One, 0);
+    let made = service_making::make(CodeSet::One, 0);
     place_at(made.service, 0)
 }
 

@@ -1,10 +1,10 @@
--- The proof of `service::resynchronise`: the short way and the long way leave one service.
+-- The proof of `service_making::resynchronise`: the short way and the long way leave one service.
 -- Assumes nothing.
 use mathlib.Core.Path.{sym}
 use Rattle.events.proofs.Resynchronised.{only-locks-stay}
 use borrow.Author.Needs.{needs}
-use Rattle.service.proofs.resynchronise.Statement.{statement}
-use Rattle.service.proofs.resynchronise.Tie as tie
+use Rattle.service_making.proofs.resynchronise.Statement.{statement}
+use Rattle.service_making.proofs.resynchronise.Tie as tie
 
 set-of-requires : tie.Need-set-of-requires
 set-of-requires c κs = search needs

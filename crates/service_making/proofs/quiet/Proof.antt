@@ -1,8 +1,8 @@
--- The proof of `service::quiet`.
+-- The proof of `service_making::quiet`.
 -- Assumes nothing.
 use borrow.Author.Needs.{needs}
-use Rattle.service.proofs.quiet.Statement.{statement}
-use Rattle.service.proofs.quiet.Tie as tie
+use Rattle.service_making.proofs.quiet.Statement.{statement}
+use Rattle.service_making.proofs.quiet.Tie as tie
 
 new-requires : tie.Need-new-requires
 new-requires c κs = search needs
