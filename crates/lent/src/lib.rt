@@ -1,38 +1,20 @@
 // The service lent and changed in place: thin calls over the calls by value.
 ghost use mathlib.Core.Path.{_≡_};
 ghost use Rattle.report.specs.Reported.{bufferOf};
-ghost use Rattle.lent.specs.Lent.{madeIn, eventIn, frameIn, changeIn, reportedIn, resynchronisedIn};
-use answers::Answer;
+ghost use Rattle.lent_by_value.specs.Lent.{madeIn, eventIn, frameIn, changeIn, reportedIn, resynchronisedIn};
 use events::Event;
+use lent_by_value::Answered;
+use lent_by_value::Stepped;
+use lent_by_value::Tried;
 use state::Service;
 use translation::CodeSet;
-
-pub mod by_value;
-
-// What an event, a frame or a change of set answers. `sent` counts the bytes of the command that runs or ended.
-pub struct Answered {
-    pub answer: Answer,
-    pub sent: u8,
-}
-
-// What an event, a frame or a change of set leaves and answers.
-pub struct Stepped {
-    pub service: Service,
-    pub answered: Answered,
-}
-
-// What a call that may be refused leaves: refusal 0, or the number and the service as it was.
-pub struct Tried {
-    pub service: Service,
-    pub refusal: u8,
-}
 
 // The service newly made on set 1 with four lock bits, or refusal 1.
 pub fn make(service: &mut Service, bits: u8) -> u8
     ensures { λ r. ⌜ (now (service .exit) ≡ madeIn CodeSet.One (now (service .entry)) bits .service)
         × (r ≡ madeIn CodeSet.One (now (service .entry)) bits .refusal) ⌝ }
 {
-    let tried = by_value::make(*service, bits);
+    let tried = lent_by_value::make(*service, bits);
     *service = tried.service;
     tried.refusal
 }
@@ -42,7 +24,7 @@ pub fn make_set_two(service: &mut Service, bits: u8) -> u8
     ensures { λ r. ⌜ (now (service .exit) ≡ madeIn CodeSet.Two (now (service .entry)) bits .service)
         × (r ≡ madeIn CodeSet.Two (now (service .entry)) bits .refusal) ⌝ }
 {
-    let tried = by_value::make_set_two(*service, bits);
+    let tried = lent_by_value::make_set_two(*service, bits);
     *service = tried.service;
     tried.refusal
 }
@@ -52,7 +34,7 @@ pub fn event(service: &mut Service, event: Event) -> Answered
     ensures { λ r. ⌜ (now (service .exit) ≡ eventIn (now (service .entry)) event .service)
         × (r ≡ eventIn (now (service .entry)) event .answered) ⌝ }
 {
-    let stepped = by_value::event(*service, event);
+    let stepped = lent_by_value::event(*service, event);
     *service = stepped.service;
     stepped.answered
 }
@@ -62,7 +44,7 @@ pub fn frame(service: &mut Service, frame: u16) -> Answered
     ensures { λ r. ⌜ (now (service .exit) ≡ frameIn (now (service .entry)) frame .service)
         × (r ≡ frameIn (now (service .entry)) frame .answered) ⌝ }
 {
-    let stepped = by_value::frame(*service, frame);
+    let stepped = lent_by_value::frame(*service, frame);
     *service = stepped.service;
     stepped.answered
 }
@@ -72,7 +54,7 @@ pub fn change(service: &mut Service, set: CodeSet) -> Answered
     ensures { λ r. ⌜ (now (service .exit) ≡ changeIn (now (service .entry)) set .service)
         × (r ≡ changeIn (now (service .entry)) set .answered) ⌝ }
 {
-    let stepped = by_value::change(*service, set);
+    let stepped = lent_by_value::change(*service, set);
     *service = stepped.service;
     stepped.answered
 }
@@ -83,7 +65,7 @@ pub fn report(service: &mut Service, event: Event, buffer: &mut [u8]) -> u8
         × (r ≡ reportedIn (now (service .entry)) event (now (buffer .entry)) .refusal)
         × (now (buffer .exit) ≡ bufferOf (now (service .entry)) event (now (buffer .entry))) ⌝ }
 {
-    let tried = by_value::report(*service, event, buffer);
+    let tried = lent_by_value::report(*service, event, buffer);
     *service = tried.service;
     tried.refusal
 }
@@ -93,7 +75,7 @@ pub fn resynchronise(service: &mut Service) -> Answered
     ensures { λ r. ⌜ (now (service .exit) ≡ resynchronisedIn (now (service .entry)) .service)
         × (r ≡ resynchronisedIn (now (service .entry)) .answered) ⌝ }
 {
-    let stepped = by_value::resynchronise(*service);
+    let stepped = lent_by_value::resynchronise(*service);
     *service = stepped.service;
     stepped.answered
 }

@@ -1,9 +1,9 @@
 -- The proof of `lent::event_on_copy`: the walk of `LentCopy` over `event`.
 -- Assumes nothing.
-use Rattle.lent.specs.Lent.{eventIn}
+use Rattle.lent_by_value.specs.Lent.{eventIn}
 use Rattle.lent.proofs.Types.{service, service-name, answered, stepped, event}
 use Rattle.lent_walks.proofs.LentCopy.{proved}
-use Rattle.lent.proofs.by_value.event.Symbol as core
+use Rattle.lent_by_value.proofs.event.Symbol as core
 use Rattle.lent.proofs.event.Symbol as lent
 use Rattle.lent.proofs.event.Met as lent-met
 use Rattle.lent.proofs.event_on_copy.Key as key

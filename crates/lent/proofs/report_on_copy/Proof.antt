@@ -1,11 +1,11 @@
 -- The proof of `lent::report_on_copy`: the walk of `LentCopyWithBuffer` over `report`.
 -- Assumes nothing.
 use Rattle.report.specs.Reported.{bufferOf}
-use Rattle.lent.specs.Lent.{reportedIn}
+use Rattle.lent_by_value.specs.Lent.{reportedIn}
 use Rattle.lent.proofs.Types.{service, service-name, tried, event}
 use Rattle.lent_walks.proofs.Plain.{byte}
 use Rattle.lent_walks.proofs.LentCopyWithBuffer.{proved}
-use Rattle.lent.proofs.by_value.report.Symbol as core
+use Rattle.lent_by_value.proofs.report.Symbol as core
 use Rattle.lent.proofs.report.Symbol as lent
 use Rattle.lent.proofs.report.Met as lent-met
 use Rattle.lent.proofs.report_on_copy.Key as key

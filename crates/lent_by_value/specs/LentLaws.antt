@@ -18,7 +18,7 @@ use Rattle.answers.specs.declared.Answer.the-variants.{Refused}
 use Rattle.state.specs.State.{newService}
 use Rattle.events.specs.Step.{stepOf}
 use Rattle.report.specs.Reported.{reportLength, bufferOf}
-use Rattle.lent.specs.Lent.{madeIn, eventIn, frameIn, reportedIn}
+use Rattle.lent_by_value.specs.Lent.{madeIn, eventIn, frameIn, reportedIn}
 
 -- 1: lock bits above 15 leave the service that is lent; others make a new one of it
 pub record Makes : Type 0 where

@@ -1,9 +1,9 @@
--- The proof of `lent::by_value::resynchronise`.
+-- The proof of `lent_by_value::resynchronise`.
 -- Assumes nothing.
-use Rattle.lent.specs.Lent.{resynchronisedIn}
+use Rattle.lent_by_value.specs.Lent.{resynchronisedIn}
 use borrow.Author.Needs.{needs}
-use Rattle.lent.proofs.by_value.resynchronise.Statement.{statement}
-use Rattle.lent.proofs.by_value.resynchronise.Tie as tie
+use Rattle.lent_by_value.proofs.resynchronise.Statement.{statement}
+use Rattle.lent_by_value.proofs.resynchronise.Tie as tie
 
 resynchronise-requires : tie.Need-resynchronise-requires
 resynchronise-requires c κs = search needs

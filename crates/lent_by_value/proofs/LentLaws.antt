@@ -11,8 +11,8 @@ use Rattle.events.proofs.RefusedCalls.{refused-answer}
 use Rattle.report.specs.declared.Reported.{Reported}
 use Rattle.report.specs.Reported.{reportedOf, tooShort}
 use Rattle.report.proofs.BufferLaws.{short-refused}
-use Rattle.lent.specs.Lent.{madeIn, eventIn, frameIn, reportedIn}
-use Rattle.lent.specs.LentLaws.{Makes, RefusedLeaves, Frames, ShortUntouched, RefusedReportLeaves}
+use Rattle.lent_by_value.specs.Lent.{madeIn, eventIn, frameIn, reportedIn}
+use Rattle.lent_by_value.specs.LentLaws.{Makes, RefusedLeaves, Frames, ShortUntouched, RefusedReportLeaves}
 
 pub makes : Makes
 unfolding madeIn makeOf if_then_else_

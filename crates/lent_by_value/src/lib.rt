@@ -1,10 +1,7 @@
 // What each lent call does, by value: the service that it leaves and what it returns.
 ghost use mathlib.Core.Path.{_≡_};
 ghost use Rattle.report.specs.Reported.{bufferOf};
-ghost use Rattle.lent.specs.Lent.{triedOf, madeIn, resynchronisedIn, steppedOf, eventIn, frameIn, changeIn, reportedIn};
-use crate::Answered;
-use crate::Stepped;
-use crate::Tried;
+ghost use Rattle.lent_by_value.specs.Lent.{triedOf, madeIn, resynchronisedIn, steppedOf, eventIn, frameIn, changeIn, reportedIn};
 use answers::Answer;
 use events::Event;
 use events::Outcome;
@@ -12,8 +9,26 @@ use state::Made;
 use state::Service;
 use translation::CodeSet;
 
+// What an event, a frame or a change of set answers. `sent` counts the bytes of the command that runs or ended.
+pub struct Answered {
+    pub answer: Answer,
+    pub sent: u8,
+}
+
+// What an event, a frame or a change of set leaves and answers.
+pub struct Stepped {
+    pub service: Service,
+    pub answered: Answered,
+}
+
+// What a call that may be refused leaves: refusal 0, or the number and the service as it was.
+pub struct Tried {
+    pub service: Service,
+    pub refusal: u8,
+}
+
 // A refusal leaves the service as it was.
-fn tried(service: Service, made: Made) -> Tried
+fn stored(service: Service, made: Made) -> Tried
     ensures { λ r. ⌜ r ≡ triedOf service made ⌝ }
 {
     let refusal = made.refusal;
@@ -30,16 +45,16 @@ fn tried(service: Service, made: Made) -> Tried
 pub fn make(service: Service, bits: u8) -> Tried
     ensures { λ r. ⌜ r ≡ madeIn CodeSet.One service bits ⌝ }
 {
-    tried(service, service_making::make(CodeSet::One, bits))
+    stored(service, service_making::make(CodeSet::One, bits))
 }
 
 pub fn make_set_two(service: Service, bits: u8) -> Tried
     ensures { λ r. ⌜ r ≡ madeIn CodeSet.Two service bits ⌝ }
 {
-    tried(service, service_making::make(CodeSet::Two, bits))
+    stored(service, service_making::make(CodeSet::Two, bits))
 }
 
-fn stepped(outcome: Outcome) -> Stepped
+fn told(outcome: Outcome) -> Stepped
     ensures { λ r. ⌜ r ≡ steppedOf outcome ⌝ }
 {
     let service = outcome.service;
@@ -56,19 +71,19 @@ fn stepped(outcome: Outcome) -> Stepped
 pub fn event(service: Service, event: Event) -> Stepped
     ensures { λ r. ⌜ r ≡ eventIn service event ⌝ }
 {
-    stepped(service::step(service, event))
+    told(service::step(service, event))
 }
 
 pub fn frame(service: Service, frame: u16) -> Stepped
     ensures { λ r. ⌜ r ≡ frameIn service frame ⌝ }
 {
-    stepped(service::frame(service, frame))
+    told(service::frame(service, frame))
 }
 
 pub fn change(service: Service, set: CodeSet) -> Stepped
     ensures { λ r. ⌜ r ≡ changeIn service set ⌝ }
 {
-    stepped(service_making::change(service, set))
+    told(service_making::change(service, set))
 }
 
 pub fn report(service: Service, event: Event, buffer: &mut [u8]) -> Tried

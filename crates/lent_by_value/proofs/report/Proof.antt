@@ -1,9 +1,9 @@
--- The proof of `lent::by_value::report`.
+-- The proof of `lent_by_value::report`.
 -- Assumes nothing.
-use Rattle.lent.specs.Lent.{reportedIn}
+use Rattle.lent_by_value.specs.Lent.{reportedIn}
 use borrow.Author.Needs.{needs}
-use Rattle.lent.proofs.by_value.report.Statement.{statement}
-use Rattle.lent.proofs.by_value.report.Tie as tie
+use Rattle.lent_by_value.proofs.report.Statement.{statement}
+use Rattle.lent_by_value.proofs.report.Tie as tie
 
 report-event-requires : tie.Need-report-event-requires
 report-event-requires c κs = search needs
