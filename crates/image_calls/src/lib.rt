@@ -1,5 +1,5 @@
 // The calls for C on an image: what goes over, the definitions of what each call leaves, returns and writes, and what holds of lists of them.
-// Their code is in `image_events`, `image_reading` and `xiquepazo`.
+// Their code is in `image_reading`, `image_renewal`, `image_events` and `xiquepazo`.
 use events::Event;
 use image::Image;
 use state::Service;

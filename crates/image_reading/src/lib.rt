@@ -1,13 +1,14 @@
-// A pack as C reads it, event by event.
+// Events as C has them, by tag and bytes, and a pack as C reads it, event by event.
 ghost use mathlib.Core.Path.{_≡_};
 ghost use Prim.Native.Nat.{_≤_};
 ghost use lib.ListN.{length, drop};
 ghost use Rattle.pack.specs.Reading.{firstOf, restOf};
-ghost use Rattle.image_calls.specs.Exports.{written};
+ghost use Rattle.image_calls.specs.Exports.{written, recognised, isUnknown};
 ghost use Rattle.image_calls.specs.Reads.{beginsAt, readTo};
 use events::Event;
 use events::tags;
 use image_calls::Reading;
+use image_calls::Recognised;
 use image_calls::Tagged;
 use pack::Read;
 
@@ -39,6 +40,32 @@ pub fn tagged_of(event: Event) -> Tagged
         Event::TimeOut => plain,
         Event::Empty => plain,
         Event::Restart => plain,
+    }
+}
+
+// The event of a tag and its bytes.
+pub fn recognise(tagged: Tagged) -> Recognised
+    ensures { λ r. ⌜ r ≡ recognised tagged ⌝ }
+{
+    let tag = tagged.tag;
+    match tag {
+        tags::KEY => Recognised::Event(Event::Key(tagged.a)),
+        tags::CALL => Recognised::Event(Event::Call(tagged.a, tagged.b, tagged.c)),
+        tags::POLL => Recognised::Event(Event::Poll),
+        tags::TIME_OUT => Recognised::Event(Event::TimeOut),
+        tags::EMPTY => Recognised::Event(Event::Empty),
+        tags::RESTART => Recognised::Event(Event::Restart),
+        _ => Recognised::Unknown,
+    }
+}
+
+// Whether a tag names no event.
+pub fn is_unknown(event: Recognised) -> bool
+    ensures { λ r. ⌜ r ≡ isUnknown event ⌝ }
+{
+    match event {
+        Recognised::Unknown => true,
+        Recognised::Event(_) => false,
     }
 }
 

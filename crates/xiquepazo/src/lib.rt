@@ -18,7 +18,7 @@ pub extern "C" fn xiquepazo_make(image: &mut Image, bits: u8) -> u8
     ensures { λ r. ⌜ (now (image .exit) ≡ makeTo CodeSet.One (now (image .entry)) bits .image)
         × (r ≡ makeTo CodeSet.One (now (image .entry)) bits .refusal) ⌝ }
 {
-    let refused = image_events::make(*image, bits);
+    let refused = image_renewal::make(*image, bits);
     *image = refused.image;
     refused.refusal
 }
@@ -29,7 +29,7 @@ pub extern "C" fn xiquepazo_make_set_2(image: &mut Image, bits: u8) -> u8
     ensures { λ r. ⌜ (now (image .exit) ≡ makeTo CodeSet.Two (now (image .entry)) bits .image)
         × (r ≡ makeTo CodeSet.Two (now (image .entry)) bits .refusal) ⌝ }
 {
-    let refused = image_events::make_set_two(*image, bits);
+    let refused = image_renewal::make_set_two(*image, bits);
     *image = refused.image;
     refused.refusal
 }
@@ -85,7 +85,7 @@ pub extern "C" fn xiquepazo_resynchronise(image: &mut Image) -> Shown
     ensures { λ r. ⌜ (now (image .exit) ≡ resynchronisedTo (now (image .entry)) .image)
         × (r ≡ resynchronisedTo (now (image .entry)) .shown) ⌝ }
 {
-    let changed = image_events::resynchronise(*image);
+    let changed = image_renewal::resynchronise(*image);
     *image = changed.image;
     changed.shown
 }

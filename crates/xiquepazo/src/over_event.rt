@@ -44,7 +44,7 @@ fn report_of(tag: u8, shown: Shown) -> Report
 pub fn report(image: Image, tagged: Tagged, buffer: &mut [u8]) -> Refused
     ensures { λ r. ⌜ (r ≡ reportTo image tagged (now (buffer .entry))) × (now (buffer .exit) ≡ writtenTo image tagged (now (buffer .entry))) ⌝ }
 {
-    if image_events::is_unknown(image_events::recognise(tagged)) {
+    if image_reading::is_unknown(image_reading::recognise(tagged)) {
         return Refused { image, refusal: 6 };
     }
     if buffer.len() < report::LENGTH {

@@ -1,4 +1,4 @@
--- The proof of `image_events::made`.
+-- The proof of `image_renewal::made`.
 -- Assumes nothing.
 use borrow.Author.Tests.{le-ltb, lt-ltb}
 use Rattle.bits.specs.Choice.{if_then_else_}
@@ -6,8 +6,8 @@ use Rattle.state.specs.State.{makeOf}
 use Rattle.image.proofs.ImageLaws.{made-anew}
 use Rattle.image_calls.specs.Exports.{triedIn}
 use borrow.Author.Needs.{needs}
-use Rattle.image_events.proofs.made.Statement.{statement}
-use Rattle.image_events.proofs.made.Tie as tie
+use Rattle.image_renewal.proofs.made.Statement.{statement}
+use Rattle.image_renewal.proofs.made.Tie as tie
 
 returns : tie.Need-returns
 unfolding makeOf triedIn if_then_else_

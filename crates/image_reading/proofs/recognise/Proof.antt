@@ -1,10 +1,10 @@
--- The proof of `image_events::recognise`.
+-- The proof of `image_reading::recognise`.
 -- Assumes nothing.
 use borrow.Author.Tests.{ne-eqb}
 use Rattle.bits.specs.Choice.{if_then_else_}
 use Rattle.image_calls.specs.Exports.{recognised}
-use Rattle.image_events.proofs.recognise.Statement.{statement}
-use Rattle.image_events.proofs.recognise.Tie as tie
+use Rattle.image_reading.proofs.recognise.Statement.{statement}
+use Rattle.image_reading.proofs.recognise.Tie as tie
 
 returns : tie.Need-returns
 unfolding recognised if_then_else_
