@@ -10,12 +10,12 @@ use Rattle.state.proofs.Service as Service
 use Rattle.state.proofs.Service.Laws as Service′
 use Rattle.events.proofs.Event as Event
 use Rattle.events.proofs.Event.Laws as Event′
-use Rattle.lent_by_value.proofs.Answered as Answered
-use Rattle.lent_by_value.proofs.Answered.Laws as Answered′
-use Rattle.lent_by_value.proofs.Stepped as Stepped
-use Rattle.lent_by_value.proofs.Stepped.Laws as Stepped′
-use Rattle.lent_by_value.proofs.Tried as Tried
-use Rattle.lent_by_value.proofs.Tried.Laws as Tried′
+use Rattle.lent_calls.proofs.Answered as Answered
+use Rattle.lent_calls.proofs.Answered.Laws as Answered′
+use Rattle.lent_calls.proofs.Stepped as Stepped
+use Rattle.lent_calls.proofs.Stepped.Laws as Stepped′
+use Rattle.lent_calls.proofs.Tried as Tried
+use Rattle.lent_calls.proofs.Tried.Laws as Tried′
 use Rattle.lent_walks.proofs.Plain.{Plain, byte, struct, enum, Outcome}
 
 abbrev pub service : Plain

@@ -1,11 +1,11 @@
 // The service lent and changed in place: thin calls over the calls by value.
 ghost use mathlib.Core.Path.{_≡_};
 ghost use Rattle.report.specs.Reported.{bufferOf};
-ghost use Rattle.lent_by_value.specs.Lent.{madeIn, eventIn, frameIn, changeIn, reportedIn, resynchronisedIn};
+ghost use Rattle.lent_calls.specs.Lent.{madeIn, eventIn, frameIn, changeIn, reportedIn, resynchronisedIn};
 use events::Event;
-use lent_by_value::Answered;
-use lent_by_value::Stepped;
-use lent_by_value::Tried;
+use lent_calls::Answered;
+use lent_calls::Stepped;
+use lent_calls::Tried;
 use state::Service;
 use translation::CodeSet;
 

@@ -1,31 +1,16 @@
 // What each lent call does, by value: the service that it leaves and what it returns.
 ghost use mathlib.Core.Path.{_≡_};
 ghost use Rattle.report.specs.Reported.{bufferOf};
-ghost use Rattle.lent_by_value.specs.Lent.{triedOf, madeIn, resynchronisedIn, steppedOf, eventIn, frameIn, changeIn, reportedIn};
+ghost use Rattle.lent_calls.specs.Lent.{triedOf, madeIn, resynchronisedIn, steppedOf, eventIn, frameIn, changeIn, reportedIn};
 use answers::Answer;
 use events::Event;
 use events::Outcome;
+use lent_calls::Answered;
+use lent_calls::Stepped;
+use lent_calls::Tried;
 use state::Made;
 use state::Service;
 use translation::CodeSet;
-
-// What an event, a frame or a change of set answers. `sent` counts the bytes of the command that runs or ended.
-pub struct Answered {
-    pub answer: Answer,
-    pub sent: u8,
-}
-
-// What an event, a frame or a change of set leaves and answers.
-pub struct Stepped {
-    pub service: Service,
-    pub answered: Answered,
-}
-
-// What a call that may be refused leaves: refusal 0, or the number and the service as it was.
-pub struct Tried {
-    pub service: Service,
-    pub refusal: u8,
-}
 
 // A refusal leaves the service as it was.
 fn stored(service: Service, made: Made) -> Tried

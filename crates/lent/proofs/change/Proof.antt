@@ -1,6 +1,6 @@
 -- The proof of `lent::change`: the walk of `LentWithOne` over `lent_by_value::change`.
 -- Assumes nothing.
-use Rattle.lent_by_value.specs.Lent.{changeIn}
+use Rattle.lent_calls.specs.Lent.{changeIn}
 use Rattle.lent.proofs.Types.{service, service-name, answered, stepped, code-set}
 use Rattle.lent_walks.proofs.LentWithOne.{proved}
 use Rattle.lent_by_value.proofs.change.Symbol as core

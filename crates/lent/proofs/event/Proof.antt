@@ -1,6 +1,6 @@
 -- The proof of `lent::event`: the walk of `LentWithOne` over `lent_by_value::event`.
 -- Assumes nothing.
-use Rattle.lent_by_value.specs.Lent.{eventIn}
+use Rattle.lent_calls.specs.Lent.{eventIn}
 use Rattle.lent.proofs.Types.{service, service-name, answered, stepped, event}
 use Rattle.lent_walks.proofs.LentWithOne.{proved}
 use Rattle.lent_by_value.proofs.event.Symbol as core

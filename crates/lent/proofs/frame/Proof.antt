@@ -1,7 +1,7 @@
 -- The proof of `lent::frame`: the walk of `LentWithOne` over `lent_by_value::frame`.
 -- Assumes nothing.
 use mir.Syntax.{w16}
-use Rattle.lent_by_value.specs.Lent.{frameIn}
+use Rattle.lent_calls.specs.Lent.{frameIn}
 use Rattle.lent.proofs.Types.{service, service-name, answered, stepped}
 use Rattle.lent_walks.proofs.Plain.{number}
 use Rattle.lent_walks.proofs.LentWithOne.{proved}

@@ -1,7 +1,7 @@
 -- The proof of `lent::make`: the walk of `LentWithOne` over `lent_by_value::make`.
 -- Assumes nothing.
 use Rattle.translation.specs.declared.CodeSet.the-variants.{One}
-use Rattle.lent_by_value.specs.Lent.{madeIn}
+use Rattle.lent_calls.specs.Lent.{madeIn}
 use Rattle.lent.proofs.Types.{service, service-name, tried}
 use Rattle.lent_walks.proofs.Plain.{byte}
 use Rattle.lent_walks.proofs.LentWithOne.{proved}

@@ -1,6 +1,6 @@
 -- The proof of `lent::resynchronise`: the walk of `LentAlone` over `lent_by_value::resynchronise`.
 -- Assumes nothing.
-use Rattle.lent_by_value.specs.Lent.{resynchronisedIn}
+use Rattle.lent_calls.specs.Lent.{resynchronisedIn}
 use Rattle.lent.proofs.Types.{service, service-name, answered, stepped}
 use Rattle.lent_walks.proofs.LentAlone.{proved}
 use Rattle.lent_by_value.proofs.resynchronise.Symbol as core

@@ -1,6 +1,6 @@
 -- The proof of `lent_by_value::change`.
 -- Assumes nothing.
-use Rattle.lent_by_value.specs.Lent.{changeIn}
+use Rattle.lent_calls.specs.Lent.{changeIn}
 use borrow.Author.Needs.{needs}
 use Rattle.lent_by_value.proofs.change.Statement.{statement}
 use Rattle.lent_by_value.proofs.change.Tie as tie

@@ -1,6 +1,6 @@
 -- The proof of `lent_by_value::make`.
 -- Assumes nothing.
-use Rattle.lent_by_value.specs.Lent.{madeIn}
+use Rattle.lent_calls.specs.Lent.{madeIn}
 use borrow.Author.Needs.{needs}
 use Rattle.lent_by_value.proofs.make.Statement.{statement}
 use Rattle.lent_by_value.proofs.make.Tie as tie

@@ -1,6 +1,6 @@
 -- The proof of `lent_by_value::make_set_two`.
 -- Assumes nothing.
-use Rattle.lent_by_value.specs.Lent.{madeIn}
+use Rattle.lent_calls.specs.Lent.{madeIn}
 use borrow.Author.Needs.{needs}
 use Rattle.lent_by_value.proofs.make_set_two.Statement.{statement}
 use Rattle.lent_by_value.proofs.make_set_two.Tie as tie

@@ -1,6 +1,6 @@
 -- The proof of `lent_by_value::resynchronise`.
 -- Assumes nothing.
-use Rattle.lent_by_value.specs.Lent.{resynchronisedIn}
+use Rattle.lent_calls.specs.Lent.{resynchronisedIn}
 use borrow.Author.Needs.{needs}
 use Rattle.lent_by_value.proofs.resynchronise.Statement.{statement}
 use Rattle.lent_by_value.proofs.resynchronise.Tie as tie

@@ -7,7 +7,7 @@ use lib.ListN.{length, drop, length-drop}
 use borrow.Author.Tests.{le-ltb}
 use Rattle.bits.specs.Choice.{if_then_else_}
 use Rattle.report.specs.Reported.{eventReport, reportedOf, writtenOf, bufferOf}
-use Rattle.lent_by_value.specs.Lent.{reportedIn}
+use Rattle.lent_calls.specs.Lent.{reportedIn}
 use Rattle.pack.proofs.Reading.{to-end}
 use borrow.Author.Needs.{needs}
 use Rattle.trace.proofs.report_at.Statement.{statement}

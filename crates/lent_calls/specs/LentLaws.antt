@@ -1,4 +1,4 @@
--- What holds of the lent calls: a refusal leaves the service as it was, and 9 the buffer too. LentLaws.antt of proofs/ proves each sentence.
+-- What holds of the lent calls: a refusal leaves the service as it was, and 9 the buffer too; a change of set leaves all but the codes. LentLaws.antt of proofs/ proves each sentence.
 -- Assumes nothing.
 use Prim.Native.Nat.{ℕ, _<_, _≤_}
 use mathlib.Core.Path.{_≡_}
@@ -9,16 +9,17 @@ use Rattle.frame.specs.declared.Reading.the-variants as reading
 use Rattle.frame.specs.Frame.{readFrame}
 use Rattle.line.specs.State.{sentOf}
 use Rattle.translation.specs.declared.CodeSet.{CodeSet}
+use Rattle.translation.specs.Translation.{unmarkedOf}
 use Rattle.state.specs.declared.Service.{Service}
 use Rattle.events.specs.declared.Event.{Event}
 use Rattle.events.specs.declared.Event.the-variants.{Key}
 use Rattle.answers.specs.declared.Refusal.{Refusal}
 use Rattle.answers.specs.declared.Refusal.the-variants.{Frame}
-use Rattle.answers.specs.declared.Answer.the-variants.{Refused}
-use Rattle.state.specs.State.{newService}
+use Rattle.answers.specs.declared.Answer.the-variants.{Nothing, Refused}
+use Rattle.state.specs.State.{newService, withCodes}
 use Rattle.events.specs.Step.{stepOf}
 use Rattle.report.specs.Reported.{reportLength, bufferOf}
-use Rattle.lent_by_value.specs.Lent.{madeIn, eventIn, frameIn, reportedIn}
+use Rattle.lent_calls.specs.Lent.{madeIn, eventIn, frameIn, changeIn, reportedIn}
 
 -- 1: lock bits above 15 leave the service that is lent; others make a new one of it
 pub record Makes : Type 0 where
@@ -37,6 +38,13 @@ pub record Frames : Type 0 where
   pub refused : (service : Service) (frame : ℕ) (fault : Fault) → readFrame frame ≡ reading.Refused fault →
       frameIn service frame ≡ record { service = service; answered = record { answer = Refused (Frame fault); sent = sentOf (service .line) } }
   pub accepted : (service : Service) (frame byte : ℕ) → readFrame frame ≡ reading.Byte byte → frameIn service frame ≡ eventIn service (Key byte)
+
+-- a change of set leaves all but the codes, which begin unmarked, and is never refused
+abbrev pub Changes : Type 0
+Changes =
+    (service : Service) (set : CodeSet) →
+    changeIn service set
+    ≡ record { service = withCodes service (unmarkedOf set); answered = record { answer = Nothing; sent = sentOf (service .line) } }
 
 -- 9 leaves the service and every byte of the buffer
 pub record Untouched (service : Service) (event : Event) (buffer : List ℕ) : Type 0 where

@@ -18,9 +18,9 @@ use Rattle.events.specs.Resynchronised.{resynchronisation, setIn}
 use Rattle.answers.specs.declared.Answer.the-variants.{Done}
 use Rattle.report.specs.declared.Reported.{Reported}
 use Rattle.report.specs.Reported.{reportedOf}
-use Rattle.lent_by_value.specs.declared.Answered.{Answered}
-use Rattle.lent_by_value.specs.declared.Stepped.{Stepped}
-use Rattle.lent_by_value.specs.declared.Tried.{Tried}
+use Rattle.lent_calls.specs.declared.Answered.{Answered}
+use Rattle.lent_calls.specs.declared.Stepped.{Stepped}
+use Rattle.lent_calls.specs.declared.Tried.{Tried}
 
 -- a service that was made replaces the one lent; a refusal leaves that one as it was
 abbrev pub triedOf : Service → Made → Tried

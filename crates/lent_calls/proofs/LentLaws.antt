@@ -1,4 +1,4 @@
--- A refusal leaves the service as it was, and 9 the buffer too.
+-- A refusal leaves the service as it was, and 9 the buffer too; a change of set leaves all but the codes.
 -- Assumes nothing.
 use mathlib.Core.Path.{_≡_, refl}
 use borrow.Author.Tests.{lt-ltb, le-ltb}
@@ -7,12 +7,13 @@ use Rattle.bits.proofs.Choice.{by-test}
 use Rattle.state.specs.State.{makeOf}
 use Rattle.events.specs.Outcomes.{answeredOf}
 use Rattle.events.specs.Frames.{frameStepOf}
+use Rattle.events.specs.Sets.{changeOf}
 use Rattle.events.proofs.RefusedCalls.{refused-answer}
 use Rattle.report.specs.declared.Reported.{Reported}
 use Rattle.report.specs.Reported.{reportedOf, tooShort}
 use Rattle.report.proofs.BufferLaws.{short-refused}
-use Rattle.lent_by_value.specs.Lent.{madeIn, eventIn, frameIn, reportedIn}
-use Rattle.lent_by_value.specs.LentLaws.{Makes, RefusedLeaves, Frames, ShortUntouched, RefusedReportLeaves}
+use Rattle.lent_calls.specs.Lent.{madeIn, eventIn, frameIn, changeIn, reportedIn}
+use Rattle.lent_calls.specs.LentLaws.{Makes, RefusedLeaves, Frames, Changes, ShortUntouched, RefusedReportLeaves}
 
 pub makes : Makes
 unfolding madeIn makeOf if_then_else_
@@ -28,6 +29,10 @@ refused-leaves service event refused is = refused-answer service event refused i
 pub frames : Frames
 unfolding frameIn eventIn frameStepOf answeredOf
 frames = record { refused = λ service frame fault is. rw is; accepted = λ service frame byte is. rw is }
+
+pub changes : Changes
+unfolding changeIn changeOf answeredOf
+changes service set = refl
 
 pub short-untouched : ShortUntouched
 unfolding reportedIn
