@@ -76,7 +76,7 @@ pub fn write_trace(file: i32) -> Traced {
     let mut text = output();
     let mut place = trace::begin();
     while !place.ended {
-        let part = trace::next_part(&pack[..length], place, &mut text);
+        let part = trace_parts::next_part(&pack[..length], place, &mut text);
         let printed = part.length;
         if !io::write_all(STDOUT_FILENO, &text[..printed]) {
             return Traced::NotWritten;

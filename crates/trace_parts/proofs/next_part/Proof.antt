@@ -1,4 +1,4 @@
--- The proof of `trace::next_part`.
+-- The proof of `trace_parts::next_part`.
 -- Assumes nothing.
 use Prim.Native.Nat.{_+_, _≤_}
 use native.Mathlib.Omega.{arith}
@@ -11,10 +11,10 @@ use Rattle.pack.specs.Laws.{First, Stops}
 use Rattle.pack.proofs.Reading.{to-end, no-event}
 use Rattle.pack.proofs.Events.{read-is-encoded}
 use Rattle.pack.proofs.Walk.{event-within, part-event, part-stops}
 use Rattle.trace.specs.Parts.{linesBy}
 use Rattle.trace.proofs.Tracing.{lines-open, lines-ended, printed, closed, Yet, begun, reported, filled}
-use Rattle.trace.proofs.next_part.Statement.{statement}
-use Rattle.trace.proofs.next_part.Tie as tie
+use Rattle.trace_parts.proofs.next_part.Statement.{statement}
+use Rattle.trace_parts.proofs.next_part.Tie as tie
 
 abbrev Inv-loop : tie.InvT-loop
 Inv-loop pack text₀ service₀ offset₀ start part₀ at₀ left₀ text service offset part at left = Yet pack (linesBy left₀ pack service₀ offset₀) text₀ text service offset part at left

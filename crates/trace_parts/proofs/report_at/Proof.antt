@@ -1,7 +1,7 @@
--- The proof of `trace::report_at`.
+-- The proof of `trace_parts::report_at`.
 -- Assumes nothing.
 use Rattle.report.specs.Text.{textOf}
 use Rattle.trace.proofs.Writing.{part-placed}
 use native.Mathlib.Omega.{arith}
 use lib.ListN.{length, drop, length-drop}
 use borrow.Author.Tests.{le-ltb}
@@ -10,8 +10,8 @@ use Rattle.report.specs.Reported.{eventReport, reportedOf, writtenOf, bufferOf}
 use Rattle.lent_calls.specs.Lent.{reportedIn}
 use Rattle.pack.proofs.Reading.{to-end}
 use borrow.Author.Needs.{needs}
-use Rattle.trace.proofs.report_at.Statement.{statement}
-use Rattle.trace.proofs.report_at.Tie as tie
+use Rattle.trace_parts.proofs.report_at.Statement.{statement}
+use Rattle.trace_parts.proofs.report_at.Tie as tie
 
 sub-report-on-copy : tie.Need-sub-report-on-copy
 sub-report-on-copy c = search needs

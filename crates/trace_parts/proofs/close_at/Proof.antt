@@ -1,12 +1,12 @@
--- The proof of `trace::close_at`.
+-- The proof of `trace_parts::close_at`.
 -- Assumes nothing.
 use mathlib.Core.Path.{refl}
 use Rattle.trace.specs.Trace.{closingOf}
 use Rattle.pack.proofs.Reading.{to-end}
 use Rattle.trace.proofs.Writing.{part-placed}
 use borrow.Author.Needs.{needs}
-use Rattle.trace.proofs.close_at.Statement.{statement}
-use Rattle.trace.proofs.close_at.Tie as tie
+use Rattle.trace_parts.proofs.close_at.Statement.{statement}
+use Rattle.trace_parts.proofs.close_at.Tie as tie
 
 closing-requires : tie.Need-closing-requires
 closing-requires c κs = search needs

@@ -1,8 +1,8 @@
--- The proof of `trace::refusal_at`.
+-- The proof of `trace_parts::refusal_at`.
 -- Assumes nothing.
 use borrow.Author.Needs.{needs}
-use Rattle.trace.proofs.refusal_at.Statement.{statement}
-use Rattle.trace.proofs.refusal_at.Tie as tie
+use Rattle.trace_parts.proofs.refusal_at.Statement.{statement}
+use Rattle.trace_parts.proofs.refusal_at.Tie as tie
 
 read-event-requires : tie.Need-read-event-requires
 read-event-requires c κs = search needs
