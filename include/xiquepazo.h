@@ -8,7 +8,7 @@
  * pointers, which must be valid, aligned and not null, and must not overlap. One service is used by one thread at a time; an interrupt
  * handler counts as one. Nothing is kept between calls, so different services may be used at the same time.
  *
- * A call takes less than 2 KB of stack (1,632 bytes measured, by a report) and writes to the registers xmm0 to xmm4, which an interrupt
+ * A call takes less than 2 KB of stack (1,792 bytes measured, by a report on set 2) and writes to the registers xmm0 to xmm4, which an interrupt
  * handler that calls the library has to save.
  *
  * Refusals, by who causes them. A refused call leaves the service as it was, byte for byte.
@@ -53,7 +53,7 @@ enum {
     XIQUEPAZO_RESTART_ASKED = 0x04, /* Ctrl-Alt-Del: the panel is asked to restart */
     XIQUEPAZO_OVERRUN = 0x05,      /* the keyboard lost bytes */
     XIQUEPAZO_TAKEN = 0x06,        /* a reply was taken */
-    XIQUEPAZO_IGNORED = 0x07,      /* a reply or time-out that was not awaited */
+    XIQUEPAZO_IGNORED = 0x07,      /* a reply or time-out that was not awaited; FA or FE from the scanner */
     XIQUEPAZO_RETURNED = 0x08,     /* `word` is the oldest of the queue that the function may see, by 00 and 01 as old programs know it */
     XIQUEPAZO_NONE = 0x09,         /* the queue is empty now */
     XIQUEPAZO_STATUS = 0x0A,       /* `word` is a status */
@@ -96,7 +96,7 @@ enum {
     XIQUEPAZO_EXTENDED_STATUS = 0x12
 };
 
-/* The bits of the flag bytes. */
+/* The bits of the flag bytes. Of the two ports they show the keyboard's own bits; of the scanner's nothing is shown. */
 enum {
     XIQUEPAZO_17_RIGHT_SHIFT = 0x01,
     XIQUEPAZO_17_LEFT_SHIFT = 0x02,
@@ -176,9 +176,21 @@ struct xiquepazo_queue {
     size_t count; /* 0 to 15; more is 15 */
 };
 
+/* The scanner's port. No flag byte tells of it. */
+struct xiquepazo_port {
+    uint8_t prefix; /* numbered as in `input`, 0 to 4; any other number is none */
+    uint8_t sum;    /* its Alt sum, 0 to 255 */
+    uint8_t shift;  /* bit 0 the right key, bit 1 the left one; other bits are not read, here and in the next two */
+    uint8_t ctrl;   /* the same */
+    uint8_t alt;    /* the same */
+    uint8_t locks;  /* lock keys held: bit 0 Scroll, 1 Num, 2 Caps; other bits are not read */
+    uint8_t insert; /* Ins held, 0 or 1; more is 1 */
+    uint8_t sysreq; /* SysReq held, 0 or 1; more is 1 */
+};
+
 /*
  * The service. Make it by xiquepazo_make or xiquepazo_make_set_2, or fill it with zeros, which is a service newly made on set 1 with no lock on;
- * then leave it to the calls. Each number has a range, which no call leaves, and a number beyond it is read as the range's comment says. 64 bytes, none of
+ * then leave it to the calls. Each number has a range, which no call leaves, and a number beyond it is read as the range's comment says. 72 bytes, none of
  * them padding.
  *
  * From then on its first four bytes are the flag bytes as they stand after the last call, and a panel may read them there; xiquepazo_flags
@@ -193,14 +205,15 @@ struct xiquepazo_queue {
 struct xiquepazo_service {
     struct xiquepazo_flag_bytes flags;
     uint8_t input; /* how the next keyboard byte is read: XIQUEPAZO_PREFIX and XIQUEPAZO_CODES of it */
-    uint8_t sum;   /* the Alt sum, 0 to 255 */
+    uint8_t sum;   /* the keyboard's Alt sum, 0 to 255 */
     struct xiquepazo_line line;
     struct xiquepazo_queue queue;
+    struct xiquepazo_port scanner;
 };
 
 /* The struct is laid out as the library has it, or these lines do not compile. */
 #define XIQUEPAZO_AT(member, place) (offsetof(struct xiquepazo_service, member) == (place))
-typedef char xiquepazo_service_is_64_bytes[sizeof(struct xiquepazo_service) == 64 ? 1 : -1];
+typedef char xiquepazo_service_is_72_bytes[sizeof(struct xiquepazo_service) == 72 ? 1 : -1];
 typedef char xiquepazo_flag_bytes_stand_first
     [XIQUEPAZO_AT(flags.byte17, 0) && XIQUEPAZO_AT(flags.byte18, 1) && XIQUEPAZO_AT(flags.byte96, 2) && XIQUEPAZO_AT(flags.byte97, 3) ? 1 : -1];
 typedef char xiquepazo_input_stands_at_4[XIQUEPAZO_AT(input, 4) && XIQUEPAZO_AT(sum, 5) ? 1 : -1];
@@ -214,6 +227,12 @@ typedef char xiquepazo_line_stands_at_6
 typedef char xiquepazo_queue_stands_at_16
     [XIQUEPAZO_AT(queue.words[0].scan, 16) && XIQUEPAZO_AT(queue.words[0].ascii, 17) && XIQUEPAZO_AT(queue.words[XIQUEPAZO_WORDS].ascii, 47)
              && XIQUEPAZO_AT(queue.head, 48) && XIQUEPAZO_AT(queue.count, 56) && sizeof(((struct xiquepazo_queue *)0)->words) == 32
+         ? 1
+         : -1];
+typedef char xiquepazo_scanner_stands_at_64
+    [XIQUEPAZO_AT(scanner.prefix, 64) && XIQUEPAZO_AT(scanner.sum, 65) && XIQUEPAZO_AT(scanner.shift, 66) && XIQUEPAZO_AT(scanner.ctrl, 67)
+             && XIQUEPAZO_AT(scanner.alt, 68) && XIQUEPAZO_AT(scanner.locks, 69) && XIQUEPAZO_AT(scanner.insert, 70)
+             && XIQUEPAZO_AT(scanner.sysreq, 71)
          ? 1
          : -1];
 #undef XIQUEPAZO_AT
@@ -234,7 +253,8 @@ struct xiquepazo_shown {
 
 /*
  * An event as a pack has it, by its capital: 'K' with the keyboard byte in `a`, 'C' with the function in `a` and its bytes in `b` and `c`,
- * 'P' poll, 'T' time-out, 'E' empty the queue, 'R' restart the line. Bytes that an event does not use are not read.
+ * 'P' poll, 'T' time-out, 'E' empty the queue, 'R' restart the line, 'S' with the scanner byte in `a`. Bytes that an event does not use are not
+ * read.
  */
 struct xiquepazo_tagged {
     uint8_t tag;
@@ -272,9 +292,9 @@ struct xiquepazo_shown xiquepazo_event(struct xiquepazo_service *service, struct
 uint8_t xiquepazo_report(struct xiquepazo_service *service, struct xiquepazo_tagged event, void *buffer, size_t length);
 
 /*
- * After a plug event: leaves the service as the all-up run of its set, E and R would, whatever it was. No key is down, no prefix open, no code
- * marked, nothing paused or waiting, the queue empty; the four locks and the set stay. Shows what this R shows: XIQUEPAZO_DONE, and the locks in
- * byte 17. Never refused.
+ * After a plug event: leaves the service as the all-up run at both ports, E and R would, whatever it was. At neither port is a key down or a prefix
+ * open; no code is marked, nothing paused or waiting, the queue empty; the four locks and the set stay. Shows what this R shows: XIQUEPAZO_DONE, and
+ * the locks in byte 17. Never refused.
  */
 struct xiquepazo_shown xiquepazo_resynchronise(struct xiquepazo_service *service);
 
@@ -323,6 +343,15 @@ static inline struct xiquepazo_shown xiquepazo_tag(struct xiquepazo_service *ser
 static inline struct xiquepazo_shown xiquepazo_key(struct xiquepazo_service *service, uint8_t byte)
 {
     return xiquepazo_tag(service, 'K', byte, 0, 0);
+}
+
+/*
+ * A byte from the scanner at its own plug: scan codes of set 1, whatever the keyboard's set. Its prefix, modifiers, held keys and Alt sum are its
+ * own; locks, pause, queue and line are the keyboard's too. FA and FE are no replies there: XIQUEPAZO_IGNORED, and nothing is touched. Never refused.
+ */
+static inline struct xiquepazo_shown xiquepazo_scan(struct xiquepazo_service *service, uint8_t byte)
+{
+    return xiquepazo_tag(service, 'S', byte, 0, 0);
 }
 
 /*

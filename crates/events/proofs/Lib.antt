@@ -9,3 +9,5 @@ pub mod SentCounts
 pub mod Ranges
 pub mod QueueListed
 pub mod OldPrograms
+pub mod Ports
+pub mod ScannerCases

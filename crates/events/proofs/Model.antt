@@ -22,7 +22,7 @@ use Rattle.translation.specs.Translation.{setOneCode, fromSetTwo, translatedOf}
 use Rattle.state.specs.State.{locksOf, newService}
 use Rattle.state.specs.Flags.{byte17Of, byte18Of, byte96Of, byte97Of, statusHigh}
 use Rattle.events.specs.Outcomes.{answeredOf, offeredOf}
-use Rattle.events.specs.Keyboard.{brokenOf, onEffect, typedOf, readOf, keyOf}
+use Rattle.events.specs.Keyboard.{brokenOf, onEffect, typedOf, readOf, keyOf, scanOf}
 use Rattle.events.specs.Commands.{ledValue, onLine, pollOf, acknowledgeOf, resendOf, timeOutOf, restartOf}
 use Rattle.events.specs.Functions.{forOldProgram, takeOf, lookOf, statusOf, setRateOf, callOf}
 use Rattle.events.specs.Step.{emptyOf, stepOf}
@@ -38,6 +38,6 @@ unfolding if_then_else_ weightOf byteOf oldWordOf
     poll.startNextOf poll.idlePollOf poll.pollIn poll.pollOf
     reply.markAcknowledgedOf reply.markResendOf reply.markDoneOf reply.markAbandonedOf reply.endedOf reply.operandOf reply.acknowledgedOf
     reply.failedOf reply.replyIn reply.acknowledgeOf reply.resendOf reply.timeOutOf byte97.byte97Of
-    table setOneCode fromSetTwo translatedOf locksOf newService byte17Of byte18Of byte96Of byte97Of statusHigh answeredOf offeredOf brokenOf onEffect typedOf readOf keyOf
+    table setOneCode fromSetTwo translatedOf locksOf newService byte17Of byte18Of byte96Of byte97Of statusHigh answeredOf offeredOf brokenOf onEffect typedOf readOf keyOf scanOf
     ledValue onLine pollOf acknowledgeOf resendOf timeOutOf restartOf forOldProgram takeOf lookOf statusOf setRateOf callOf emptyOf stepOf
 model = tt

@@ -27,16 +27,18 @@ use Rattle.translation.specs.declared.CodeSet.{CodeSet}
 use Rattle.translation.specs.declared.Passed.{Passed}
 use Rattle.translation.specs.declared.Passed.the-variants as passed
 use Rattle.translation.specs.Translation.{translatedOf}
+use Rattle.state.specs.declared.Device.{Device}
+use Rattle.state.specs.declared.Device.the-variants.{Keyboard, Scanner}
 use Rattle.state.specs.declared.Service.{Service}
 use Rattle.events.specs.declared.Event.{Event}
-use Rattle.events.specs.declared.Event.the-variants.{Key, Call, Poll, TimeOut, Empty, Restart}
+use Rattle.events.specs.declared.Event.the-variants.{Key, Call, Poll, TimeOut, Empty, Restart, Scan}
 use Rattle.answers.specs.declared.Refusal.the-variants as refusal
 use Rattle.answers.specs.declared.Answer.{Answer}
-use Rattle.answers.specs.declared.Answer.the-variants.{Put, Dropped, Taken, Break, Done, Stored, Refused}
+use Rattle.answers.specs.declared.Answer.the-variants.{Put, Dropped, Taken, Ignored, Break, Done, Stored, Refused}
 use Rattle.events.specs.declared.Outcome.{Outcome}
-use Rattle.state.specs.State.{newService}
+use Rattle.state.specs.State.{newService, portOf}
 use Rattle.events.specs.Outcomes.{answeredOf, offeredOf}
-use Rattle.events.specs.Keyboard.{breakWord, brokenOf, onEffect, typedOf, readOf, onPassed, keyOf}
+use Rattle.events.specs.Keyboard.{breakWord, brokenOf, onEffect, typedOf, readOf, onPassed, keyOf, scanOf}
 use Rattle.events.specs.Commands.{lineAnswer, onLine, pollOf, acknowledgeOf, resendOf, timeOutOf, restartOf}
 use Rattle.events.specs.Functions.{asStored, oldestAnswer, forOldProgram, takeOf, lookOf, statusOf, setRateOf, callOf}
 use Rattle.events.specs.Step.{emptyOf, stepOf}
@@ -112,14 +114,14 @@ broken-told event found =
       whole = stays-whole .put queue.emptyQueue breakWord whole;
     }
 
-effect-tells : (byte : ℕ) (service : Service) (e : Effect) → Whole (service .queue) → Tells (Key byte) (wordsOf (service .queue)) (onEffect service e)
+effect-tells : (event : Event) (service : Service) (e : Effect) → Whole (service .queue) → Tells event (wordsOf (service .queue)) (onEffect service e)
 unfolding onEffect answeredOf brokenOf
-effect-tells byte service effect.Nothing w = record { told = same (service .queue) w (record { words = λ _. refl; fits = λ _. tt }) }
-effect-tells byte service (effect.Put word) w =
-    offered-tells (Key byte) (Put word) (Dropped word) service word w (λ _. refl) (λ _. refl) (λ _ h. h) (λ _ h. h)
-effect-tells byte service effect.Break w = record { told = broken-told (Key byte) (wordsOf (service .queue)) }
-effect-tells byte service effect.RestartAsked w = record { told = same (service .queue) w (record { words = λ _. refl; fits = λ _. tt }) }
-effect-tells byte service effect.Overrun w = record { told = same (service .queue) w (record { words = λ _. refl; fits = λ _. tt }) }
+effect-tells event service effect.Nothing w = record { told = same (service .queue) w (record { words = λ _. refl; fits = λ _. tt }) }
+effect-tells event service (effect.Put word) w =
+    offered-tells event (Put word) (Dropped word) service word w (λ _. refl) (λ _. refl) (λ _ h. h) (λ _ h. h)
+effect-tells event service effect.Break w = record { told = broken-told event (wordsOf (service .queue)) }
+effect-tells event service effect.RestartAsked w = record { told = same (service .queue) w (record { words = λ _. refl; fits = λ _. tt }) }
+effect-tells event service effect.Overrun w = record { told = same (service .queue) w (record { words = λ _. refl; fits = λ _. tt }) }
 
 line-idle : (event : Event) (answer : LineAnswer) (taken : Answer) → Idle event taken → Idle event (lineAnswer answer taken)
 line-idle event (line-answer.Send byte) taken h = record { words = λ _. refl; fits = λ _. tt }
@@ -133,9 +135,10 @@ line-tells : (event : Event) (service : Service) (after : LineOutcome) (taken : 
 unfolding onLine
 line-tells event service after taken h w = record { told = same (service .queue) w (line-idle event (after .answer) taken h) }
 
-typed-tells : (service : Service) (raw byte : ℕ) → Whole (service .queue) → Tells (Key raw) (wordsOf (service .queue)) (typedOf service byte)
+typed-tells : (event : Event) (device : Device) (service : Service) (byte : ℕ) → Whole (service .queue)
+    → Tells event (wordsOf (service .queue)) (typedOf device service byte)
 unfolding typedOf
-typed-tells service raw byte w = effect-tells raw _ (keyByteOf (service .port) (service .shared) byte .effect) w
+typed-tells event device service byte w = effect-tells event _ (keyByteOf (portOf device (service .ports)) (service .shared) byte .effect) w
 
 acknowledge-tells : (service : Service) (byte : ℕ) → Whole (service .queue) → Tells (Key byte) (wordsOf (service .queue)) (acknowledgeOf service)
 unfolding acknowledgeOf
@@ -150,7 +153,7 @@ read-tells : (service : Service) (raw byte : ℕ) → Whole (service .queue) →
 unfolding readOf
 read-tells service raw byte w =
     either (Tells (Key raw) (wordsOf (service .queue))) _ _ _ (acknowledge-tells service raw w)
-    (either (Tells (Key raw) (wordsOf (service .queue))) _ _ _ (resend-tells service raw w) (typed-tells service raw byte w))
+    (either (Tells (Key raw) (wordsOf (service .queue))) _ _ _ (resend-tells service raw w) (typed-tells (Key raw) Keyboard service byte w))
 
 passed-tells : (service : Service) (raw : ℕ) (p : Passed) → Whole (service .queue) → Tells (Key raw) (wordsOf (service .queue)) (onPassed service p)
 unfolding answeredOf
@@ -160,6 +163,13 @@ passed-tells service raw (passed.Byte byte) w = read-tells service raw byte w
 key-tells : (service : Service) (byte : ℕ) → Whole (service .queue) → Tells (Key byte) (wordsOf (service .queue)) (keyOf service byte)
 unfolding keyOf
 key-tells service byte w = passed-tells _ byte (translatedOf (service .codes) byte .passed) w
+
+scan-tells : (service : Service) (byte : ℕ) → Whole (service .queue) → Tells (Scan byte) (wordsOf (service .queue)) (scanOf service byte)
+unfolding scanOf answeredOf
+scan-tells service byte w =
+    either (Tells (Scan byte) (wordsOf (service .queue))) _ _ _
+    (record { told = same {answer = Ignored} (service .queue) w (record { words = λ _. refl; fits = λ _. tt }) })
+    (typed-tells (Scan byte) Scanner service byte w)
 
 -- ---- functions
 
@@ -274,6 +284,7 @@ step-tells service Poll w = line-tells Poll service _ Taken (record { words = λ
 step-tells service TimeOut w = line-tells TimeOut service _ Done (done refl) w
 step-tells service Empty w = record { told = record { words = empty-holds-none ∙ emptied (wordsOf (service .queue)); fits = tt; whole = stays-whole .empty } }
 step-tells service Restart w = record { told = same (service .queue) w (done refl) }
+step-tells service (Scan byte) w = scan-tells service byte w
 
 pub listed : (service : Service) (event : Event) → Whole (service .queue) → Listed service event
 listed service event w = let told = step-tells service event w .told in record { words = told .words; fits = told .fits }

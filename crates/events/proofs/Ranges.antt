@@ -20,15 +20,17 @@ use Rattle.line.proofs.Ranges.{line-stays-in-range}
 use Rattle.translation.specs.declared.Passed.{Passed}
 use Rattle.translation.specs.declared.Passed.the-variants as passed
 use Rattle.translation.specs.Translation.{translatedOf}
+use Rattle.state.specs.declared.Device.{Device}
+use Rattle.state.specs.declared.Device.the-variants.{Keyboard, Scanner}
 use Rattle.state.specs.declared.Service.{Service}
-use Rattle.state.specs.State.{newService, withLine}
+use Rattle.state.specs.State.{newService, portOf, withLine}
 use Rattle.state.specs.Ranges.{InRange}
 use Rattle.answers.specs.declared.Answer.{Answer}
 use Rattle.events.specs.declared.Event.{Event}
-use Rattle.events.specs.declared.Event.the-variants.{Key, Call, Poll, TimeOut, Empty, Restart}
+use Rattle.events.specs.declared.Event.the-variants.{Key, Call, Poll, TimeOut, Empty, Restart, Scan}
 use Rattle.events.specs.declared.Outcome.{Outcome}
 use Rattle.events.specs.Outcomes.{answeredOf, offeredOf}
-use Rattle.events.specs.Keyboard.{brokenOf, onEffect, typedOf, readOf, onPassed, keyOf}
+use Rattle.events.specs.Keyboard.{brokenOf, onEffect, typedOf, readOf, onPassed, keyOf, scanOf}
 use Rattle.events.specs.Commands.{ledValue, onLine, pollOf, acknowledgeOf, resendOf, timeOutOf, restartOf}
 use Rattle.events.specs.Functions.{asStored, forOldProgram, takeOf, lookOf, statusOf, setRateOf, callOf}
 use Rattle.events.specs.Step.{emptyOf, stepOf}
@@ -59,10 +61,10 @@ effect-in service effect.Break h =
 effect-in service effect.RestartAsked h = answered-in service _ h
 effect-in service effect.Overrun h = answered-in service _ h
 
-typed-in : (service : Service) (byte : ℕ) → InRange service → Left (typedOf service byte)
+typed-in : (device : Device) (service : Service) (byte : ℕ) → InRange service → Left (typedOf device service byte)
 unfolding typedOf
-typed-in service byte h =
-    effect-in _ (keyByteOf (service .port) (service .shared) byte .effect) (record { queue = h .queue; line = h .line })
+typed-in device service byte h =
+    effect-in _ (keyByteOf (portOf device (service .ports)) (service .shared) byte .effect) (record { queue = h .queue; line = h .line })
 
 -- ---- events of the line
 
@@ -85,7 +87,7 @@ unfolding readOf acknowledgeOf resendOf onLine
 read-in service byte h =
     either Left _ _ _ (record { left = line-in service input.acknowledge tt h })
     (either Left _ _ _ (record { left = line-in service input.resend tt h })
-    (typed-in service byte h))
+    (typed-in Keyboard service byte h))
 
 passed-in : (service : Service) (p : Passed) → InRange service → Left (onPassed service p)
 passed-in service passed.Nothing h = answered-in service _ h
@@ -142,13 +144,14 @@ call-in service function a b h =
 -- ---- every event
 
 step-in : (service : Service) (event : Event) → InRange service → Left (stepOf service event)
-unfolding stepOf timeOutOf onLine emptyOf restartOf
+unfolding stepOf timeOutOf onLine emptyOf restartOf scanOf
 step-in service (Key byte) h = key-in service byte h
 step-in service (Call function a b) h = call-in service function a b h
 step-in service Poll h = poll-in service h
 step-in service TimeOut h = record { left = line-in service input.timeOut tt h }
 step-in service Empty h = answered-in _ _ (record { queue = queue-stays-in-range .empty; line = h .line })
 step-in service Restart h = record { left = line-in service input.restart tt h }
+step-in service (Scan byte) h = either Left _ _ _ (answered-in service _ h) (typed-in Scanner service byte h)
 
 pub stays-in-range : StaysInRange
 unfolding newService changeOf

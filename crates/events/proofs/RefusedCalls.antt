@@ -26,18 +26,20 @@ use Rattle.line.specs.declared.Outcome.{Outcome as LineOutcome}
 use Rattle.translation.specs.declared.Passed.{Passed}
 use Rattle.translation.specs.declared.Passed.the-variants as passed
 use Rattle.translation.specs.Translation.{translatedOf}
+use Rattle.state.specs.declared.Device.{Device}
+use Rattle.state.specs.declared.Device.the-variants.{Keyboard, Scanner}
 use Rattle.state.specs.declared.Service.{Service}
 use Rattle.events.specs.declared.Event.{Event}
-use Rattle.events.specs.declared.Event.the-variants.{Key, Call, Poll, TimeOut, Empty, Restart}
+use Rattle.events.specs.declared.Event.the-variants.{Key, Call, Poll, TimeOut, Empty, Restart, Scan}
 use Rattle.answers.specs.declared.Refusal.{Refusal}
 use Rattle.answers.specs.declared.Refusal.the-variants as refusal
 use Rattle.answers.specs.declared.Answer.{Answer}
 use Rattle.answers.specs.declared.Answer.the-variants.{Taken, Done, Stored, Refused}
 use Rattle.events.specs.declared.Outcome.{Outcome}
-use Rattle.state.specs.State.{withQueue}
+use Rattle.state.specs.State.{portOf, withQueue}
 use Rattle.answers.specs.Answers.{ansOf}
 use Rattle.events.specs.Outcomes.{answeredOf, offeredOf}
-use Rattle.events.specs.Keyboard.{brokenOf, onEffect, typedOf, readOf, onPassed, keyOf}
+use Rattle.events.specs.Keyboard.{brokenOf, onEffect, typedOf, readOf, onPassed, keyOf, scanOf}
 use Rattle.events.specs.Commands.{lineAnswer, onLine, pollOf, acknowledgeOf, resendOf, timeOutOf, restartOf}
 use Rattle.events.specs.Functions.{asStored, oldestAnswer, forOldProgram, takeOf, lookOf, statusOf, setRateOf, callOf}
 use Rattle.events.specs.Step.{emptyOf, stepOf}
@@ -84,9 +86,9 @@ effect-keeps service before effect.Break = accepting (record { low = refl })
 effect-keeps service before effect.RestartAsked = accepting (record { low = refl })
 effect-keeps service before effect.Overrun = accepting (record { low = refl })
 
-typed-keeps : (service before : Service) (byte : ℕ) → Keeps before (typedOf service byte)
+typed-keeps : (device : Device) (service before : Service) (byte : ℕ) → Keeps before (typedOf device service byte)
 unfolding typedOf
-typed-keeps service before byte = effect-keeps _ before (keyByteOf (service .port) (service .shared) byte .effect)
+typed-keeps device service before byte = effect-keeps _ before (keyByteOf (portOf device (service .ports)) (service .shared) byte .effect)
 
 line-keeps : (service before : Service) (after : LineOutcome) (taken : Answer) → Accepts taken → Keeps before (onLine service after taken)
 unfolding onLine
@@ -104,7 +106,7 @@ read-keeps : (service before : Service) (byte : ℕ) → Keeps before (readOf se
 unfolding readOf
 read-keeps service before byte =
     either (Keeps before) _ _ _ (acknowledge-keeps service before)
-    (either (Keeps before) _ _ _ (resend-keeps service before) (typed-keeps service before byte))
+    (either (Keeps before) _ _ _ (resend-keeps service before) (typed-keeps Keyboard service before byte))
 
 passed-keeps : (service before : Service) (p : Passed) → Keeps before (onPassed service p)
 unfolding answeredOf
@@ -155,13 +157,14 @@ call-keeps service function a b =
     (unchanged _ refl refl)
 
 step-keeps : (service : Service) (event : Event) → Keeps service (stepOf service event)
-unfolding stepOf pollOf timeOutOf emptyOf answeredOf restartOf
+unfolding stepOf pollOf timeOutOf emptyOf answeredOf restartOf scanOf
 step-keeps service (Key byte) = key-keeps service byte
 step-keeps service (Call function a b) = call-keeps service function a b
 step-keeps service Poll = line-keeps service service _ Taken (record { low = refl })
 step-keeps service TimeOut = line-keeps service service _ Done (record { low = refl })
 step-keeps service Empty = accepting (record { low = refl })
 step-keeps service Restart = accepting (record { low = refl })
+step-keeps service (Scan byte) = either (Keeps service) _ _ _ (accepting (record { low = refl })) (typed-keeps Scanner service service byte)
 
 -- a refused event leaves the service, whether its number or its answer is known
 pub refused-step : (service : Service) (event : Event) → isRefusal (shownOf (stepOf service event)) ≡ true → next service event ≡ service

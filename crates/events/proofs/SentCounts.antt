@@ -31,16 +31,18 @@ use Rattle.translation.specs.declared.CodeSet.{CodeSet}
 use Rattle.translation.specs.declared.Passed.{Passed}
 use Rattle.translation.specs.declared.Passed.the-variants as passed
 use Rattle.translation.specs.Translation.{translatedOf}
+use Rattle.state.specs.declared.Device.{Device}
+use Rattle.state.specs.declared.Device.the-variants.{Keyboard, Scanner}
 use Rattle.state.specs.declared.Service.{Service}
 use Rattle.events.specs.declared.Event.{Event}
-use Rattle.events.specs.declared.Event.the-variants.{Key, Call, Poll, TimeOut, Empty, Restart}
+use Rattle.events.specs.declared.Event.the-variants.{Key, Call, Poll, TimeOut, Empty, Restart, Scan}
 use Rattle.answers.specs.declared.Answer.{Answer}
 use Rattle.answers.specs.declared.Answer.the-variants.{Taken, Done}
 use Rattle.events.specs.declared.Outcome.{Outcome}
-use Rattle.state.specs.State.{newService, withCodes}
+use Rattle.state.specs.State.{newService, portOf, withCodes}
 use Rattle.answers.specs.Answers.{ansOf}
 use Rattle.events.specs.Outcomes.{answeredOf, offeredOf}
-use Rattle.events.specs.Keyboard.{brokenOf, onEffect, typedOf, readOf, onPassed, keyOf}
+use Rattle.events.specs.Keyboard.{brokenOf, onEffect, typedOf, readOf, onPassed, keyOf, scanOf}
 use Rattle.events.specs.Commands.{ledValue, lineAnswer, onLine, pollOf, acknowledgeOf, resendOf, timeOutOf, restartOf}
 use Rattle.events.specs.Functions.{asStored, oldestAnswer, forOldProgram, takeOf, lookOf, statusOf, setRateOf, callOf}
 use Rattle.events.specs.Step.{emptyOf, stepOf}
@@ -150,15 +152,19 @@ effect-right before service effect.Break e w = answered-right before _ _ (ap (λ
 effect-right before service effect.RestartAsked e w = answered-right before service _ (ap (λ (l : Line). l .phase) e) w (record { silent = refl })
 effect-right before service effect.Overrun e w = answered-right before service _ (ap (λ (l : Line). l .phase) e) w (record { silent = refl })
 
-typed-right : (service : Service) (byte : ℕ) → Within (service .line) → Right service (typedOf service byte)
+typed-right : (device : Device) (service : Service) (byte : ℕ) → Within (service .line) → Right service (typedOf device service byte)
 unfolding typedOf
-typed-right service byte w = effect-right service _ (keyByteOf (service .port) (service .shared) byte .effect) refl w
+typed-right device service byte w = effect-right service _ (keyByteOf (portOf device (service .ports)) (service .shared) byte .effect) refl w
+
+scan-right : (service : Service) (byte : ℕ) → Within (service .line) → Right service (scanOf service byte)
+unfolding scanOf
+scan-right service byte w = either (Right service) _ _ _ (answered-right service _ _ refl w (record { silent = refl })) (typed-right Scanner service byte w)
 
 read-right : (service : Service) (byte : ℕ) → Within (service .line) → Right service (readOf service byte)
 unfolding readOf
 read-right service byte w =
     either (Right service) _ _ _ (acknowledge-right service w)
-    (either (Right service) _ _ _ (resend-right service w) (typed-right service byte w))
+    (either (Right service) _ _ _ (resend-right service w) (typed-right Keyboard service byte w))
 
 passed-right : (service : Service) (p : Passed) → Within (service .line) → Right service (onPassed service p)
 passed-right service passed.Nothing w = answered-right service service _ refl w (record { silent = refl })
@@ -219,6 +225,7 @@ step-counted service TimeOut w = let r = time-out-right service w in record { co
 step-counted service Empty w =
     let r = answered-right service _ Done refl w (record { silent = refl }) in record { count = r .sent; most = r .most; carried = r .carried; within = r .within }
 step-counted service Restart w = record { count = refl; most = lit≤ tt; carried = restart-carries; within = new-within }
+step-counted service (Scan byte) w = let r = scan-right service byte w in record { count = r .sent; most = r .most; carried = r .carried; within = r .within }
 
 -- one event of a list, by the count before it
 pub record CountedOn (service : Service) (earlier : ℕ) (event : Event) : Type 0 where

@@ -19,13 +19,15 @@ use Rattle.translation.specs.declared.Translated.{Translated}
 use Rattle.translation.specs.Translation.{setOf, passes, fromSetTwo, translatedOf, passedOn, translation, codesAfter}
 use Rattle.translation.specs.Laws.{isNoCode}
 use Rattle.translation.proofs.Laws.{each-code-passes}
+use Rattle.state.specs.declared.Device.{Device}
+use Rattle.state.specs.declared.Device.the-variants.{Keyboard, Scanner}
 use Rattle.state.specs.declared.Service.{Service}
-use Rattle.state.specs.State.{withPort, withCodes}
+use Rattle.state.specs.State.{portOf, portsWith, withPorts, withCodes}
 use Rattle.state.specs.Flags.{byte17Of, byte18Of, byte96Of, byte97Of}
-use Rattle.events.specs.declared.Event.the-variants.{Key, Call, Poll, TimeOut, Empty, Restart}
+use Rattle.events.specs.declared.Event.the-variants.{Key, Call, Poll, TimeOut, Empty, Restart, Scan}
 use Rattle.events.specs.declared.Outcome.{Outcome}
 use Rattle.events.specs.Outcomes.{answeredOf, offeredOf}
-use Rattle.events.specs.Keyboard.{brokenOf, onEffect, typedOf, readOf, onPassed, keyOf}
+use Rattle.events.specs.Keyboard.{brokenOf, onEffect, typedOf, readOf, onPassed, keyOf, scanOf}
 use Rattle.events.specs.Commands.{onLine, pollOf, acknowledgeOf, resendOf, timeOutOf, restartOf}
 use Rattle.events.specs.Functions.{forOldProgram, takeOf, lookOf, statusOf, setRateOf, storeOf}
 use Rattle.events.specs.Step.{emptyOf, stepOf}
@@ -51,11 +53,12 @@ effect-apart service codes effect.Break = refl
 effect-apart service codes effect.RestartAsked = refl
 effect-apart service codes effect.Overrun = refl
 
-typed-apart : (service : Service) (codes : Codes) (byte : ℕ) → typedOf (withCodes service codes) byte ≡ onCodes (typedOf service byte) codes
+typed-apart : (device : Device) (service : Service) (codes : Codes) (byte : ℕ)
+    → typedOf device (withCodes service codes) byte ≡ onCodes (typedOf device service byte) codes
 unfolding typedOf
-typed-apart service codes byte =
-    let decoded = keyByteOf (service .port) (service .shared) byte in
-    effect-apart (withPort service (decoded .port) (decoded .shared)) codes (decoded .effect)
+typed-apart device service codes byte =
+    let decoded = keyByteOf (portOf device (service .ports)) (service .shared) byte in
+    effect-apart (withPorts service (portsWith device (decoded .port) (service .ports)) (decoded .shared)) codes (decoded .effect)
 
 -- one of three, each on other codes
 of-three : (acknowledged resent : Bool) (codes : Codes) (x y z w : Outcome) → w ≡ onCodes z codes
@@ -67,7 +70,7 @@ of-three false false codes x y z w is = is
 
 read-apart : (service : Service) (codes : Codes) (byte : ℕ) → readOf (withCodes service codes) byte ≡ onCodes (readOf service byte) codes
 unfolding readOf acknowledgeOf resendOf onLine
-read-apart service codes byte = of-three (eqb byte 0xFA) (eqb byte 0xFE) codes _ _ _ _ (typed-apart service codes byte)
+read-apart service codes byte = of-three (eqb byte 0xFA) (eqb byte 0xFE) codes _ _ _ _ (typed-apart Keyboard service codes byte)
 
 -- ---- bytes from step 1 on
 
@@ -75,14 +78,14 @@ abbrev runRead : Service → List ℕ → List Shown
 runRead service [] = []
 runRead service (byte ∷ more) = shownOf (readOf service byte) ∷ runRead (readOf service byte .service) more
 
-abbrev pub afterRead : Service → List ℕ → Service
+abbrev afterRead : Service → List ℕ → Service
 afterRead service [] = service
 afterRead service (byte ∷ more) = afterRead (readOf service byte .service) more
 
 -- what the bytes of a list leave and show, by what the first of them became
-pub record Read (service : Service) (codes : Codes) (bytes : List ℕ) : Type 0 where
-  pub shown : besideMarks codes bytes (run (withCodes service codes) (map Key bytes)) ≡ runRead service (translation codes bytes)
-  pub last : after (withCodes service codes) (map Key bytes) ≡ withCodes (afterRead service (translation codes bytes)) (codesAfter codes bytes)
+record Read (service : Service) (codes : Codes) (bytes : List ℕ) : Type 0 where
+  shown : besideMarks codes bytes (run (withCodes service codes) (map Key bytes)) ≡ runRead service (translation codes bytes)
+  last : after (withCodes service codes) (map Key bytes) ≡ withCodes (afterRead service (translation codes bytes)) (codesAfter codes bytes)
 
 record First (service : Service) (translated : Translated) (more : List ℕ) : Type 0 where
   shown :
@@ -110,7 +113,7 @@ first service codes (Byte byte) more h =
       last = ap (λ (o : Outcome). after (o .service) (map Key more)) is ∙ later .last;
     }
 
-pub read : (service : Service) (codes : Codes) (bytes : List ℕ) → Read service codes bytes
+read : (service : Service) (codes : Codes) (bytes : List ℕ) → Read service codes bytes
 unfolding stepOf keyOf
 read service codes [] = record { shown = refl; last = refl }
 read service codes (byte ∷ more) =
@@ -232,6 +235,12 @@ call-on service function a b =
     (either (On (service .codes)) _ _ _ (record { same = refl }) (either (On (service .codes)) _ _ _ (record { same = refl }) (record { same = refl })))
     (record { same = refl }) (record { same = refl })
 
+scan-on : (service : Service) (byte : ℕ) → On (service .codes) (scanOf service byte)
+unfolding scanOf answeredOf
+scan-on service byte =
+    either (On (service .codes)) _ _ _ (record { same = refl })
+    (record { same = ap (λ (o : Outcome). o .service .codes) (typed-apart Scanner service (service .codes) byte) })
+
 pub events-keep-set : EventsKeepSet
 unfolding stepOf keyOf pollOf timeOutOf restartOf emptyOf onLine answeredOf
 events-keep-set service (Key byte) =
@@ -242,3 +251,4 @@ events-keep-set service Poll = refl
 events-keep-set service TimeOut = refl
 events-keep-set service Empty = refl
 events-keep-set service Restart = refl
+events-keep-set service (Scan byte) = ap setOf (scan-on service byte .same)

@@ -15,3 +15,5 @@ pub mod Ranges
 pub mod Refused
 pub mod Queued
 pub mod OldPrograms
+pub mod Ports
+pub mod ScannerCases

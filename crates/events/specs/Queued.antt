@@ -14,7 +14,7 @@ use Rattle.queue.specs.Words.{wordsOf, restIn, pastEnhancedIn}
 use Rattle.translation.specs.declared.CodeSet.{CodeSet}
 use Rattle.state.specs.declared.Service.{Service}
 use Rattle.events.specs.declared.Event.{Event}
-use Rattle.events.specs.declared.Event.the-variants.{Key, Call, Poll, TimeOut, Empty, Restart}
+use Rattle.events.specs.declared.Event.the-variants.{Key, Call, Poll, TimeOut, Empty, Restart, Scan}
 use Rattle.answers.specs.declared.Refusal.the-variants as refusal
 use Rattle.answers.specs.declared.Answer.{Answer}
 use Rattle.answers.specs.declared.Answer.the-variants.{Nothing, Put, Dropped, Break, RestartAsked, Overrun, Taken, Ignored, Returned, NoWord, Status, Done, Stored, Send, Quiet, GivenUp, Refused}
@@ -31,6 +31,7 @@ isOldRead Poll = false
 isOldRead TimeOut = false
 isOldRead Empty = false
 isOldRead Restart = false
+isOldRead (Scan byte) = false
 
 -- the words that an event finds: 00 and 01 first remove the enhanced words before all others
 abbrev pub foundBy : Event → List Word → List Word
@@ -48,6 +49,7 @@ removes Poll = false
 removes TimeOut = false
 removes Empty = false
 removes Restart = false
+removes (Scan byte) = false
 
 -- E empties
 abbrev pub empties : Event → Bool
@@ -57,6 +59,7 @@ empties Poll = false
 empties TimeOut = false
 empties Empty = true
 empties Restart = false
+empties (Scan byte) = false
 
 -- the words after an event, oldest first, by the event, its answer and the words that it found
 abbrev pub wordsAfter : Event → Answer → List Word → List Word

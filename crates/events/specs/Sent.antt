@@ -11,7 +11,7 @@ use Rattle.line.specs.Laws.{Within}
 use Rattle.translation.specs.declared.CodeSet.{CodeSet}
 use Rattle.state.specs.declared.Service.{Service}
 use Rattle.events.specs.declared.Event.{Event}
-use Rattle.events.specs.declared.Event.the-variants.{Key, Call, Poll, TimeOut, Empty, Restart}
+use Rattle.events.specs.declared.Event.the-variants.{Key, Call, Poll, TimeOut, Empty, Restart, Scan}
 use Rattle.state.specs.State.{newService}
 use Rattle.events.specs.Step.{stepOf}
 use Rattle.events.specs.Run.{Shown, shownOf, next, run, after}
@@ -28,6 +28,7 @@ countAt earlier Poll shown = earlier + bytesShown shown
 countAt earlier TimeOut shown = earlier + bytesShown shown
 countAt earlier Empty shown = earlier + bytesShown shown
 countAt earlier Restart shown = 0
+countAt earlier (Scan byte) shown = earlier + bytesShown shown
 
 -- a count goes on while its command runs
 abbrev pub carriedOn : Phase → ℕ → ℕ

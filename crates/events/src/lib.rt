@@ -1,10 +1,10 @@
-// The six events: their definitions, and what follows from them over lists. Their code is in the crates above.
+// The seven events: their definitions, and what follows from them over lists. Their code is in the crates above.
 use answers::Answer;
 use state::Service;
 
 pub mod tags;
 
-// A keyboard byte, an int 16h call, a poll, a reply that timed out, the queue emptied, the line restarted.
+// A keyboard byte, an int 16h call, a poll, a reply that timed out, the queue emptied, the line restarted, a scanner byte.
 pub enum Event {
     Key(u8),
     Call(u8, u8, u8),
@@ -12,6 +12,7 @@ pub enum Event {
     TimeOut,
     Empty,
     Restart,
+    Scan(u8),
 }
 
 // What an event leaves and answers. `sent` counts the bytes of the command that runs or ended.

@@ -1,98 +1,72 @@
-// A byte from the keyboard: translated first, then a reply for the line, or a key for the port, whose effect reaches the queue.
+// A byte from the keyboard: translated first, then a reply for the line, or a key for its port. A byte from the scanner: always a key for its port.
+// Both take one way, so that the decoder is called from one place, where the compiler puts its code.
 ghost use mathlib.Core.Path.{_≡_};
-ghost use Rattle.state.specs.State.{withPort};
-ghost use Rattle.events.specs.Keyboard.{putOf, brokenOf, onEffect, typedOf, readOf, keyOf};
+ghost use Rattle.events_keyboard.specs.Devices.{translatedFrom, acknowledgedFrom, resentFrom, readFrom, byteFrom};
 use answers::Answer;
 use events::Outcome;
-use port::Effect;
-use port::Port;
-use port::Shared;
+use state::Device;
 use state::Service;
+use translation::Codes;
 use translation::Passed;
-use word::Word;
+use translation::Translated;
 
-fn with_port(service: Service, port: Port, shared: Shared) -> Service
-    ensures { λ r. ⌜ r ≡ withPort service port shared ⌝ }
+// A scanner sends set 1.
+fn translate(device: Device, codes: Codes, byte: u8) -> Translated
+    ensures { λ r. ⌜ r ≡ translatedFrom device codes byte ⌝ }
 {
-    let queue = service.queue;
-    let line = service.line;
-    let codes = service.codes;
-    Service {
-        port,
-        shared,
-        queue,
-        line,
-        codes,
+    match device {
+        Device::Keyboard => translation::translate(codes, byte),
+        Device::Scanner => Translated {
+            codes,
+            passed: Passed::Byte(byte),
+        },
     }
 }
 
-// A word is put, or dropped where the queue is full.
-fn put(service: Service, word: Word) -> Outcome
-    ensures { λ r. ⌜ r ≡ putOf service word ⌝ }
+// FA. A scanner has nothing to reply to.
+fn acknowledge(device: Device, service: Service) -> Outcome
+    ensures { λ r. ⌜ r ≡ acknowledgedFrom device service ⌝ }
 {
-    events_outcomes::offered(service, word, Answer::Put(word), Answer::Dropped(word))
-}
-
-// Step 8: the queue holds the word 0000 alone.
-fn broken(service: Service) -> Outcome
-    ensures { λ r. ⌜ r ≡ brokenOf service ⌝ }
-{
-    let word = word::joined(word::scan_code(0), word::ascii_byte(0));
-    let after = queue::put(queue::empty(), word);
-    let left = after.queue;
-    events_outcomes::answered(state::with_queue(service, left), Answer::Break)
-}
-
-// What the port's effect does to the queue and answers.
-fn apply(service: Service, effect: Effect) -> Outcome
-    ensures { λ r. ⌜ r ≡ onEffect service effect ⌝ }
-{
-    match effect {
-        Effect::Nothing => events_outcomes::answered(service, Answer::Nothing),
-        Effect::Put(word) => put(service, word),
-        Effect::Break => broken(service),
-        Effect::RestartAsked => events_outcomes::answered(service, Answer::RestartAsked),
-        Effect::Overrun => events_outcomes::answered(service, Answer::Overrun),
+    match device {
+        Device::Keyboard => events_commands::acknowledge(service),
+        Device::Scanner => events_outcomes::answered(service, Answer::Ignored),
     }
 }
 
-// Steps 2 to 9.
-fn typed(service: Service, byte: u8) -> Outcome
-    ensures { λ r. ⌜ r ≡ typedOf service byte ⌝ }
+// FE.
+fn resend(device: Device, service: Service) -> Outcome
+    ensures { λ r. ⌜ r ≡ resentFrom device service ⌝ }
 {
-    let port = service.port;
-    let shared = service.shared;
-    let decoded = port_decoder::key_byte(port, shared, byte);
-    let next = decoded.port;
-    let common = decoded.shared;
-    let effect = decoded.effect;
-    apply(with_port(service, next, common), effect)
+    match device {
+        Device::Keyboard => events_commands::resend(service),
+        Device::Scanner => events_outcomes::answered(service, Answer::Ignored),
+    }
 }
 
-// Step 1 before the others: FA and FE are the line's and touch no prefix.
-fn read(service: Service, byte: u8) -> Outcome
-    ensures { λ r. ⌜ r ≡ readOf service byte ⌝ }
+// Step 1 before the others: FA and FE touch no prefix.
+fn read(device: Device, service: Service, byte: u8) -> Outcome
+    ensures { λ r. ⌜ r ≡ readFrom device service byte ⌝ }
 {
     if byte == 0xFA {
-        return events_commands::acknowledge(service);
+        return acknowledge(device, service);
     }
     if byte == 0xFE {
-        return events_commands::resend(service);
+        return resend(device, service);
     }
-    typed(service, byte)
+    events_typing::typed(device, service, byte)
 }
 
 // The translation before step 1. A mark is kept in the codes and has nothing to tell.
-pub fn key(service: Service, byte: u8) -> Outcome
-    ensures { λ r. ⌜ r ≡ keyOf service byte ⌝ }
+pub fn byte(device: Device, service: Service, byte: u8) -> Outcome
+    ensures { λ r. ⌜ r ≡ byteFrom device service byte ⌝ }
 {
     let codes = service.codes;
-    let translated = translation::translate(codes, byte);
+    let translated = translate(device, codes, byte);
     let later = translated.codes;
     let passed = translated.passed;
     let next = state::with_codes(service, later);
     match passed {
         Passed::Nothing => events_outcomes::answered(next, Answer::Nothing),
-        Passed::Byte(byte) => read(next, byte),
+        Passed::Byte(byte) => read(device, next, byte),
     }
 }

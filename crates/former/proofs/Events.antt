@@ -5,7 +5,7 @@ use mathlib.Core.Path.{_≡_, refl, ap, sym, _∙_, subst}
 use mathlib.Core.Bool.{true, false}
 use lib.Dec.{eqb}
 use Rattle.bits.specs.Choice.{if_then_else_}
-use Rattle.bits.proofs.Choice.{by-test, by-test-both, both}
+use Rattle.bits.proofs.Choice.{by-test, both}
 use Rattle.bits.proofs.Tests.{not-both}
 use Rattle.word.specs.declared.Word.{Word}
 use Rattle.word.specs.OldWord.{oldWordOf}
@@ -25,21 +25,24 @@ use Rattle.line.specs.State.{sentOf}
 use Rattle.translation.specs.declared.Passed.{Passed}
 use Rattle.translation.specs.declared.Passed.the-variants as passed
 use Rattle.translation.specs.Translation.{translatedOf}
+use Rattle.state.specs.declared.Device.{Device}
+use Rattle.state.specs.declared.Device.the-variants.{Keyboard, Scanner}
 use Rattle.state.specs.declared.Service.{Service}
-use Rattle.state.specs.State.{withPort, withQueue, withLine, withCodes}
+use Rattle.state.specs.State.{portOf, portsWith, withPorts, withQueue, withLine, withCodes}
 use Rattle.state.specs.Flags.{byte17Of, statusHigh}
 use Rattle.answers.specs.declared.Answer.{Answer}
 use Rattle.answers.specs.declared.Answer.the-variants.{Put, Dropped, Taken, Done}
 use Rattle.events.specs.declared.Event.{Event}
-use Rattle.events.specs.declared.Event.the-variants.{Key, Call, Poll, TimeOut, Empty, Restart}
+use Rattle.events.specs.declared.Event.the-variants.{Key, Call, Poll, TimeOut, Empty, Restart, Scan}
 use Rattle.events.specs.declared.Outcome.{Outcome}
 use Rattle.events.specs.Outcomes.{outcome, answeredOf, offeredOf}
-use Rattle.events.specs.Keyboard.{brokenOf, onEffect, typedOf, readOf, onPassed, keyOf}
+use Rattle.events.specs.Keyboard.{brokenOf, onEffect, typedOf, readOf, onPassed, keyOf, scanOf}
 use Rattle.events.specs.Commands.{lineAnswer, onLine, pollOf, acknowledgeOf, resendOf, timeOutOf, restartOf}
 use Rattle.events.specs.Functions.{asStored, oldestAnswer, forOldProgram, takeOf, lookOf, statusOf, setRateOf, callOf}
 use Rattle.events.specs.Step.{emptyOf, stepOf}
 use Rattle.events.specs.Queued.{isOldRead}
-use Rattle.former.specs.Former.{formerTypedOf, formerReadOf, formerOnPassed, formerKeyOf, formerCallOf, formerStepOf}
+use Rattle.events.proofs.Calls.{call-both}
+use Rattle.former.specs.Former.{formerTypedOf, formerReadOf, formerOnPassed, formerKeyOf, formerScanOf, formerCallOf, formerStepOf}
 use Rattle.former.specs.Laws.{stores, asOldAnswer, toldAt}
 use Rattle.former.proofs.Queue.{formerQueue, formerOldest, former-empty, former-oldest, former-rest, former-put, former-past, Settled, settled-empty, settled-rest, settled-past, settled-put}
 use Rattle.former.proofs.Port.{formerEffect, KeptEffect, reading-decoded}
@@ -93,12 +96,17 @@ effect-became service effect.Break k s = broken-became service
 effect-became service effect.RestartAsked k s = answered-became service _ refl s
 effect-became service effect.Overrun k s = answered-became service _ refl s
 
-typed-became : (service : Service) (byte : ℕ) → Settled (service .queue) → Became (typedOf service byte) (formerTypedOf (formerService service) byte)
+typed-became : (device : Device) (service : Service) (byte : ℕ) → Settled (service .queue)
+    → Became (typedOf device service byte) (formerTypedOf device (formerService service) byte)
 unfolding typedOf keyByteOf formerTypedOf
-typed-became service byte s =
-    let decoded = reading-decoded (readingOf (service .port .prefix) byte) (service .port) (service .shared) in
-    subst (λ (d : Decoded). Became (typedOf service byte) (onEffect (withPort (formerService service) (d .port) (d .shared)) (d .effect))) (sym (decoded .is))
-    (effect-became (withPort service _ _) _ (decoded .kept) s)
+typed-became device service byte s =
+    let port = portOf device (service .ports) in
+    let decoded = reading-decoded (readingOf (port .prefix) byte) port (service .shared) in
+    subst
+    (λ (d : Decoded).
+    Became (typedOf device service byte)
+    (onEffect (withPorts (formerService service) (portsWith device (d .port) (service .ports)) (d .shared)) (d .effect)))
+    (sym (decoded .is)) (effect-became (withPorts service _ _) _ (decoded .kept) s)
 
 -- ---- the line
 
@@ -127,7 +135,7 @@ resend-became service s = line-became service _ Taken refl s
 read-became : (service : Service) (byte : ℕ) → Settled (service .queue) → Became (readOf service byte) (formerReadOf (formerService service) byte)
 unfolding readOf formerReadOf
 read-became service byte s =
-    both Became _ (acknowledge-became service s) (both Became _ (resend-became service s) (typed-became service byte s))
+    both Became _ (acknowledge-became service s) (both Became _ (resend-became service s) (typed-became Keyboard service byte s))
 
 passed-became : (service : Service) (p : Passed) → Settled (service .queue) → Became (onPassed service p) (formerOnPassed (formerService service) p)
 passed-became service passed.Nothing s = answered-became service _ refl s
@@ -136,6 +144,10 @@ passed-became service (passed.Byte byte) s = read-became service byte s
 key-became : (service : Service) (byte : ℕ) → Settled (service .queue) → Became (keyOf service byte) (formerKeyOf (formerService service) byte)
 unfolding keyOf formerKeyOf
 key-became service byte s = passed-became (withCodes service _) (translatedOf (service .codes) byte .passed) s
+
+scan-became : (service : Service) (byte : ℕ) → Settled (service .queue) → Became (scanOf service byte) (formerScanOf (formerService service) byte)
+unfolding scanOf formerScanOf
+scan-became service byte s = both Became _ (answered-became service _ refl s) (typed-became Scanner service byte s)
 
 -- ---- functions
 
@@ -190,19 +202,12 @@ look-became service s =
 module _ (service : Service) (function a b : ℕ) (s : Settled (service .queue)) where
   others-became : eqb function 0x00 ≡ false → eqb function 0x01 ≡ false → eqb function 0x05 ≡ false
       → Became (callOf service function a b) (callOf (formerService service) function a b)
-  unfolding callOf statusOf byte17Of statusHigh setRateOf
+  unfolding statusOf byte17Of statusHigh setRateOf
   others-became d e n =
-      by-test-both Became _ (λ y. not-both y d)
-      (λ _.
-      by-test-both Became _ (λ y. not-both y e)
-      (λ _.
-      both Became _ (take-became service s)
-      (both Became _ (look-became service s)
-      (both Became _ (answered-became service _ refl s)
-      (both Became _ (answered-became service _ refl s)
-      (both Became _
+      call-both Became service (formerService service) function a b (λ y. not-both y d) (λ y. not-both y e)
+      (take-became service s) (look-became service s) (λ _. answered-became service _ refl s) (λ _. answered-became service _ refl s)
       (both Became _ (answered-became service _ refl s) (both Became _ (answered-became service _ refl s) (answered-became _ Done refl s)))
-      (by-test-both Became _ (λ y. not-both y n) (λ _. answered-became service _ refl s))))))))
+      (λ y. not-both y n) (answered-became service _ refl s)
 
   take-called : eqb function 0x00 ≡ true → callOf service function a b ≡ takeOf oldWordOf (forOldProgram service)
   unfolding callOf if_then_else_
@@ -246,3 +251,4 @@ stepped service TimeOut s n = as-became TimeOut refl (line-became service _ Done
 stepped service Empty s n =
     as-became Empty refl (record { is = ap (λ (q : Queue). outcome (withQueue service q) Done (sentOf (service .line))) (sym former-empty); settled = settled-empty })
 stepped service Restart s n = as-became Restart refl (record { is = refl; settled = s })
+stepped service (Scan byte) s n = as-became (Scan byte) refl (scan-became service byte s)

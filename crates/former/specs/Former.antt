@@ -1,7 +1,7 @@
 -- The service as it was before document 02, W-205: grey keys put the words of the keys that they double, and 00 and 01 return what is stored.
 -- Assumes nothing.
 use Prim.Native.Nat.{ℕ}
-use mathlib.Core.Bool.{Bool, true, false}
+use mathlib.Core.Bool.{Bool, true, false, _||_}
 use mathlib.Core.List.{List, [], _∷_, _++_, map}
 use lib.Dec.{eqb}
 use Rattle.bits.specs.Choice.{if_then_else_}
@@ -28,11 +28,15 @@ use Rattle.port.specs.KeyByte.{onEntry, onReading}
 use Rattle.translation.specs.declared.Passed.{Passed}
 use Rattle.translation.specs.declared.Passed.the-variants as passed
 use Rattle.translation.specs.Translation.{translatedOf}
+use Rattle.state.specs.declared.Device.{Device}
+use Rattle.state.specs.declared.Device.the-variants.{Keyboard, Scanner}
 use Rattle.state.specs.declared.Service.{Service}
-use Rattle.state.specs.State.{withPort, withCodes}
+use Rattle.state.specs.State.{portOf, portsWith, withPorts, withCodes}
+use Rattle.answers.specs.declared.Answer.the-variants.{Ignored}
 use Rattle.events.specs.declared.Event.{Event}
-use Rattle.events.specs.declared.Event.the-variants.{Key, Call, Poll, TimeOut, Empty, Restart}
+use Rattle.events.specs.declared.Event.the-variants.{Key, Call, Poll, TimeOut, Empty, Restart, Scan}
 use Rattle.events.specs.declared.Outcome.{Outcome}
+use Rattle.events.specs.Outcomes.{answeredOf}
 use Rattle.events.specs.Keyboard.{onEffect, onPassed}
 use Rattle.events.specs.Commands.{acknowledgeOf, resendOf}
 use Rattle.events.specs.Functions.{asStored, forOldProgram, takeOf, lookOf, callOf}
@@ -71,17 +75,18 @@ formerOnReading reading.Pauses port shared = onReading reading.Pauses port share
 formerOnReading reading.PauseEnds port shared = onReading reading.PauseEnds port shared
 formerOnReading (reading.Key code) port shared = formerCodeRead (withPrefix port Closed) shared code
 
-unfoldable pub formerTypedOf : Service → ℕ → Outcome
-formerTypedOf service byte =
-    let decoded = formerOnReading (readingOf (service .port .prefix) byte) (service .port) (service .shared) in
-    onEffect (withPort service (decoded .port) (decoded .shared)) (decoded .effect)
+unfoldable pub formerTypedOf : Device → Service → ℕ → Outcome
+formerTypedOf device service byte =
+    let port = portOf device (service .ports) in
+    let decoded = formerOnReading (readingOf (port .prefix) byte) port (service .shared) in
+    onEffect (withPorts service (portsWith device (decoded .port) (service .ports)) (decoded .shared)) (decoded .effect)
 
 -- step 1 and what stands before it
 unfoldable pub formerReadOf : Service → ℕ → Outcome
 formerReadOf service byte =
     if eqb byte 0xFA then acknowledgeOf service
     else if eqb byte 0xFE then resendOf service
-    else formerTypedOf service byte
+    else formerTypedOf Keyboard service byte
 
 abbrev pub formerOnPassed : Service → Passed → Outcome
 formerOnPassed service passed.Nothing = onPassed service passed.Nothing
@@ -91,6 +96,10 @@ unfoldable pub formerKeyOf : Service → ℕ → Outcome
 formerKeyOf service byte =
     let translated = translatedOf (service .codes) byte in
     formerOnPassed (withCodes service (translated .codes)) (translated .passed)
+
+-- a scanner, which came later, beside these rows
+unfoldable pub formerScanOf : Service → ℕ → Outcome
+formerScanOf service byte = if eqb byte 0xFA || eqb byte 0xFE then answeredOf service Ignored else formerTypedOf Scanner service byte
 
 -- functions: 00 and 01 returned words as 10 and 11 do
 unfoldable pub formerCallOf : Service → ℕ → ℕ → ℕ → Outcome
@@ -107,6 +116,7 @@ formerStepOf service Poll = stepOf service Poll
 formerStepOf service TimeOut = stepOf service TimeOut
 formerStepOf service Empty = stepOf service Empty
 formerStepOf service Restart = stepOf service Restart
+formerStepOf service (Scan byte) = formerScanOf service byte
 
 -- a list of what ran; a change of set did what it does
 abbrev pub formerAfter : Service → List Ran → Service

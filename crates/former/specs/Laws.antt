@@ -13,7 +13,7 @@ use Rattle.state.specs.State.{newService, withQueue}
 use Rattle.answers.specs.declared.Answer.{Answer}
 use Rattle.answers.specs.declared.Answer.the-variants.{Nothing, Put, Dropped, Break, RestartAsked, Overrun, Taken, Ignored, Returned, NoWord, Status, Done, Stored, Send, Quiet, GivenUp, Refused}
 use Rattle.events.specs.declared.Event.{Event}
-use Rattle.events.specs.declared.Event.the-variants.{Key, Call, Poll, TimeOut, Empty, Restart}
+use Rattle.events.specs.declared.Event.the-variants.{Key, Call, Poll, TimeOut, Empty, Restart, Scan}
 use Rattle.events.specs.declared.Outcome.{Outcome}
 use Rattle.events.specs.Step.{stepOf}
 use Rattle.events.specs.Queued.{isOldRead}
@@ -29,6 +29,7 @@ stores Poll = false
 stores TimeOut = false
 stores Empty = false
 stores Restart = false
+stores (Scan byte) = false
 
 abbrev pub NoneStores : List Ran → Type 0
 NoneStores [] = Unit {0}

@@ -15,8 +15,10 @@ use Rattle.bits.proofs.Bytes.{digit, Spelt, spelt, digit-read, BitsBack, bits-b
 use Rattle.word.specs.declared.Word.{Word}
 use Rattle.port.specs.declared.Prefix.{Prefix}
 use Rattle.port.specs.declared.Prefix.the-variants.{Closed, E0, E1, E1Make, E1Break}
+use Rattle.port.specs.declared.Sides.{Sides}
 use Rattle.port.specs.declared.Modifiers.{Modifiers}
 use Rattle.port.specs.declared.Held.{Held}
+use Rattle.port.specs.declared.Port.{Port}
 use Rattle.port.specs.declared.Locks.{Locks}
 use Rattle.port.specs.State.{eitherSide}
 use Rattle.queue.specs.declared.Queue.{Queue}
@@ -45,7 +47,8 @@ use Rattle.image.specs.declared.QueueImage.{QueueImage}
 use Rattle.image.specs.ImageFlags.{flagBytesOf, modifiersAt, heldAt, sharedAt, prefixNumber, prefixAt, codesNumber, inputNumber, codesAt}
 use Rattle.image.specs.ImageQueue.{wordImage, wordAtImage, headAt, queueImage, queueAt}
 use Rattle.image.specs.ImageLine.{flagOf, isSet, kindNumber, kindAt, settingImage, settingAt, valueIn, commandImage, commandAt, phaseImage, phaseAt, marksAt, lineImage, lineAt}
-use Rattle.image.specs.Image.{imageOf, portAt, serviceOf, newImage}
+use Rattle.image.specs.ImagePort.{sidesNumber, sidesAt, locksHeldNumber, portImage, portAt}
+use Rattle.image.specs.Image.{imageOf, keyboardAt, serviceOf, newImage}
 use Rattle.image.specs.ImageLaws.{ReadsInRange, ComesBack, MadeAnew}
 
 flag-back : (bit : Bool) → isSet (flagOf bit) ≡ bit
@@ -59,13 +62,21 @@ lower-back prefix codes = omega arith
 pub upper-back : (prefix : ℕ) (codes : Codes) → inputNumber prefix codes / 16 ≡ codesNumber codes
 upper-back prefix codes = omega arith
 
-prefix-back : (prefix : Prefix) → prefixAt (prefixNumber prefix % 16) ≡ prefix
+prefix-back : (prefix : Prefix) → prefixAt (prefixNumber prefix) ≡ prefix
 unfolding prefixAt if_then_else_
 prefix-back Closed = refl
 prefix-back E0 = refl
 prefix-back E1 = refl
 prefix-back E1Make = refl
 prefix-back E1Break = refl
+
+-- and so where it is half of a byte
+half-back : (prefix : Prefix) → prefixAt (prefixNumber prefix % 16) ≡ prefix
+half-back Closed = prefix-back Closed
+half-back E0 = prefix-back E0
+half-back E1 = prefix-back E1
+half-back E1Make = prefix-back E1Make
+half-back E1Break = prefix-back E1Break
 
 pub codes-back : (codes : Codes) → codesAt (codesNumber codes) ≡ codes
 unfolding codesAt if_then_else_
@@ -76,10 +87,10 @@ codes-back SetTwoMarked = refl
 -- the bits of three flag bytes, each as it was put in
 module _ (service : Service) where
   abbrev m : Modifiers
-  m = service .port .modifiers
+  m = service .ports .keyboard .modifiers
 
   abbrev h : Held
-  h = service .port .held
+  h = service .ports .keyboard .held
 
   abbrev l : Locks
   l = service .shared .locks
@@ -90,7 +101,7 @@ module _ (service : Service) where
   in18 : BitsBack (m .ctrl .left) (m .alt .left) (h .sysreq) (service .shared .paused) (h .scroll) (h .num) (h .caps) (h .insert)
   in18 = bits-back _ _ _ _ _ _ _ _
 
-  in96 : BitsBack (e1Open (service .port .prefix)) (e0Open (service .port .prefix)) (m .ctrl .right) (m .alt .right) false false false false
+  in96 : BitsBack (e1Open (service .ports .keyboard .prefix)) (e0Open (service .ports .keyboard .prefix)) (m .ctrl .right) (m .alt .right) false false false false
   in96 = bits-back _ _ _ _ _ _ _ _
 
   modifiers-back : modifiersAt (flagBytesOf service) ≡ m
@@ -104,6 +115,17 @@ module _ (service : Service) where
   shared-back : sharedAt (flagBytesOf service) ≡ service .shared
   unfolding byte17Of byte18Of locksOf
   shared-back = simp (div-div-eq-div-mul, in17 .at4, in17 .at5, in17 .at6, in17 .at7, in18 .at3)
+
+-- a port beside the flag bytes
+sides-back : (sides : Sides) → sidesAt (sidesNumber sides) ≡ sides
+unfolding sidesAt sidesNumber
+sides-back sides = let back = bits-back (sides .right) (sides .left) false false false false false false in simp (back .at0, back .at1)
+
+port-back : (port : Port) → portAt (portImage port) ≡ port
+unfolding portAt portImage locksHeldNumber
+port-back port =
+    let held = bits-back (port .held .scroll) (port .held .num) (port .held .caps) false false false false false in
+    simp (prefix-back, sides-back, held .at0, held .at1, held .at2, flag-back)
 
 odd-part : (number digit rest : ℕ) → number ≡ digit + 2 * rest → digit ≤ 1 → number % 2 ≡ digit
 odd-part number digit rest is most = omega arith
@@ -221,10 +243,14 @@ its-line-back : (service : Service) → LineInRange (service .line) → lineAt (
 unfolding shown97
 its-line-back service = line-back (service .line)
 
+keyboard-back : (service : Service) → keyboardAt (imageOf service) ≡ service .ports .keyboard
+unfolding imageOf keyboardAt
+keyboard-back service = simp (lower-back, half-back, modifiers-back service, held-back service)
+
 pub comes-back : ComesBack
-unfolding serviceOf imageOf portAt
-comes-back service h =
-    simp (lower-back, upper-back, prefix-back, codes-back, modifiers-back service, held-back service, shared-back service, queue-back (service .queue) (h .queue), its-line-back service (h .line))
+unfolding serviceOf imageOf
+comes-back service in-range =
+    simp (keyboard-back service, port-back, upper-back, codes-back, shared-back service, queue-back (service .queue) (in-range .queue), its-line-back service (in-range .line))
 
 none-set : byteOf false false false false false false false false ≡ 0
 unfolding byteOf weightOf if_then_else_
@@ -235,5 +261,5 @@ unfolding shown97 byte97Of ledRunsOf ledRunsIn newService newLine byteOf weightO
 line-clear set bits = refl
 
 pub made-anew : MadeAnew
-unfolding imageOf newImage byte17Of byte18Of byte96Of queueImage lineImage newService locksOf emptyQueue newLine
+unfolding imageOf newImage byte17Of byte18Of byte96Of queueImage lineImage portImage sidesNumber locksHeldNumber newService locksOf emptyQueue newLine
 made-anew set bits = simp (lower-half-raised, none-set, line-clear)

@@ -9,6 +9,7 @@ use Rattle.translation.specs.Translation.{unmarkedOf}
 use Rattle.state.specs.declared.Service.{Service}
 use Rattle.image.specs.declared.Image.{Image}
 use Rattle.image.specs.ImageFlags.{flagBytesOf, modifiersAt, heldAt, sharedAt, prefixNumber, prefixAt, inputNumber, codesAt}
+use Rattle.image.specs.ImagePort.{portImage, portAt}
 use Rattle.image.specs.ImageQueue.{queueImage, queueAt}
 use Rattle.image.specs.ImageLine.{lineImage, lineAt}
 
@@ -16,14 +17,15 @@ unfoldable pub imageOf : Service → Image
 imageOf service =
     record {
       flags = flagBytesOf service;
-      input = inputNumber (prefixNumber (service .port .prefix)) (service .codes);
-      sum = service .port .sum;
+      input = inputNumber (prefixNumber (service .ports .keyboard .prefix)) (service .codes);
+      sum = service .ports .keyboard .sum;
       line = lineImage (service .line);
       queue = queueImage (service .queue);
+      scanner = portImage (service .ports .scanner);
     }
 
-unfoldable pub portAt : Image → Port
-portAt image =
+unfoldable pub keyboardAt : Image → Port
+keyboardAt image =
     record {
       prefix = prefixAt (image .input % 16);
       modifiers = modifiersAt (image .flags);
@@ -34,7 +36,7 @@ portAt image =
 unfoldable pub serviceOf : Image → Service
 serviceOf image =
     record {
-      port = portAt image;
+      ports = record { keyboard = keyboardAt image; scanner = portAt (image .scanner) };
       shared = sharedAt (image .flags);
       queue = queueAt (image .queue);
       line = lineAt (image .line) (image .flags .byte97);
@@ -55,6 +57,8 @@ newImage set bits =
             command = record { phase = 0; kind = 0; value = 0; operand = 0; sends = 0; sent = 0 };
           };
       queue = record { words = replicate arrayLength (record { scan = 0; ascii = 0 }); head = 0; count = 0 };
+      scanner =
+          record { prefix = 0; sum = 0; shift = 0; ctrl = 0; alt = 0; locks = 0; insert = 0; sysreq = 0 };
     }
 
 -- the image with the codes of a set, unmarked
@@ -66,4 +70,5 @@ onSet set image =
       sum = image .sum;
       line = image .line;
       queue = image .queue;
+      scanner = image .scanner;
     }

@@ -1,5 +1,6 @@
 pub mod ImageFlags
 pub mod ImageQueue
 pub mod ImageLine
+pub mod ImagePort
 pub mod Image
 pub mod ImageLaws

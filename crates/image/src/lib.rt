@@ -52,9 +52,25 @@ pub struct QueueImage {
     pub count: usize,
 }
 
+// The scanner's port, of which no flag byte tells. `prefix` is numbered as in `input`. Of a modifier bit 0 is the right key and bit 1 the left one, as
+// byte 17 has the Shift keys. The last three are the held bits: of `locks` bit 0 is Scroll, 1 Num, 2 Caps; `insert` and `sysreq` are 0 or 1, and any
+// other number is read as 1.
+#[repr(C)]
+pub struct PortImage {
+    pub prefix: u8,
+    pub sum: u8,
+    pub shift: u8,
+    pub ctrl: u8,
+    pub alt: u8,
+    pub locks: u8,
+    pub insert: u8,
+    pub sysreq: u8,
+}
+
 // `input` says how the next keyboard byte is read. Its lower half is the open prefix: 0 for none, 1 for E0, 2 for E1, 3 for E1 1D, 4 for E1 9D, and
 // any other number is read as none. Its upper half is the codes that come: 0 for set 1, 1 for set 2, 2 for set 2 with the next code marked as a
-// break, and any other number is read as set 1. `sum` is the Alt sum. 64 bytes, none of them padding.
+// break, and any other number is read as set 1. `sum` is the keyboard's Alt sum. 72 bytes, none of
+// them padding.
 #[repr(C)]
 pub struct Image {
     pub flags: FlagBytes,
@@ -62,4 +78,5 @@ pub struct Image {
     pub sum: u8,
     pub line: LineImage,
     pub queue: QueueImage,
+    pub scanner: PortImage,
 }

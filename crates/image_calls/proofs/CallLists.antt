@@ -153,12 +153,12 @@ module _ (set : CodeSet) (image : Image) (locks : ℕ) (most : locks ≤ 15) whe
   seen-made items = images-follow (made set image locks) items .shown ∙ ap (λ (s : Service). seenItems s items) (made-new set image locks most)
 
 pub images-forget : ImagesForget
-images-forget image other set locks most first settling further ran =
+images-forget turns image other set locks most first settling further ran =
     let settled = afterCalls (made set image locks) (first ++ settling) in
     let service = afterItems (newService set locks) (first ++ settling) in
     let is : serviceOf settled ≡ service = after-made set image locks most (first ++ settling) in
     let alike : seenItems service further ≡ seenItems (remade service) further =
-    demand-3 set locks most first settling further (rw (after-made set image locks most first) at ran) in
+    demand-3 turns set locks most first settling further (rw (after-made set image locks most first) at ran) in
     images-follow settled further .shown
     ∙ ap (λ (s : Service). seenItems s further) is
     ∙ alike

@@ -14,7 +14,7 @@ use Rattle.events.specs.Functions.{statusOf, callOf}
 use Rattle.events.specs.Step.{stepOf}
 use Rattle.events.specs.Sets.{changeOf}
 use Rattle.image.specs.declared.Image.{Image}
-use Rattle.image.specs.Image.{imageOf, portAt, serviceOf, onSet}
+use Rattle.image.specs.Image.{imageOf, keyboardAt, serviceOf, onSet}
 use Rattle.image.proofs.ImageLaws.{lower-back, upper-back, codes-back}
 use Rattle.image_calls.specs.declared.Recognised.{Recognised}
 use Rattle.image_calls.specs.declared.Changed.{Changed}
@@ -34,7 +34,7 @@ unfolding stepIn stepOf callOf statusOf answeredOf shownToC if_then_else_
 status-writes image = refl
 
 changed-service : (set : CodeSet) (image : Image) → serviceOf (onSet set image) ≡ withCodes (serviceOf image) (unmarkedOf set)
-unfolding serviceOf portAt onSet
+unfolding serviceOf keyboardAt onSet
 changed-service set image = simp (lower-back, upper-back, codes-back)
 
 change-stands : (set : CodeSet) (image : Image) → standing (withCodes (serviceOf image) (unmarkedOf set)) ≡ changeTo set image

@@ -17,7 +17,7 @@ use Rattle.answers.specs.Answers.{ansOf}
 use Rattle.state.specs.declared.Service.{Service}
 use Rattle.events.specs.declared.Event.{Event}
 use Rattle.events.specs.declared.Outcome.{Outcome}
-use Rattle.events.specs.Tags.{keyTag, callTag, pollTag, timeOutTag, emptyTag, restartTag, tagOf}
+use Rattle.events.specs.Tags.{keyTag, callTag, pollTag, timeOutTag, emptyTag, restartTag, scanTag, tagOf}
 use Rattle.events.specs.Outcomes.{answeredOf}
 use Rattle.events.specs.Functions.{callOf}
 use Rattle.events.specs.Step.{stepOf}
@@ -118,7 +118,8 @@ named tagged =
     (λ _. by-test (Named tagged) (eqb (tagged .tag) pollTag) _ _ (eqb-true (tagged .tag) pollTag)
     (λ _. by-test (Named tagged) (eqb (tagged .tag) timeOutTag) _ _ (eqb-true (tagged .tag) timeOutTag)
     (λ _. by-test (Named tagged) (eqb (tagged .tag) emptyTag) _ _ (eqb-true (tagged .tag) emptyTag)
-    (λ _. by-test (Named tagged) (eqb (tagged .tag) restartTag) _ _ (eqb-true (tagged .tag) restartTag) (λ _. tt))))))
+    (λ _. by-test (Named tagged) (eqb (tagged .tag) restartTag) _ _ (eqb-true (tagged .tag) restartTag)
+    (λ _. by-test (Named tagged) (eqb (tagged .tag) scanTag) _ _ (eqb-true (tagged .tag) scanTag) (λ _. tt)))))))
 
 -- what the code makes of a report, by what stopped it
 module _ (image : Image) (tagged : Tagged) (buffer : List ℕ) where

@@ -16,7 +16,7 @@ use Rattle.frame.specs.Frame.{readFrame}
 use Rattle.translation.specs.declared.CodeSet.{CodeSet}
 use Rattle.state.specs.declared.Service.{Service}
 use Rattle.events.specs.declared.Event.{Event}
-use Rattle.events.specs.declared.Event.the-variants.{Key, Call, Poll, TimeOut, Empty, Restart}
+use Rattle.events.specs.declared.Event.the-variants.{Key, Call, Poll, TimeOut, Empty, Restart, Scan}
 use Rattle.events.specs.declared.Outcome.{Outcome}
 use Rattle.state.specs.State.{makeOf}
 use Rattle.events.specs.Step.{stepOf}
@@ -39,6 +39,7 @@ tags-recognised Poll = refl
 tags-recognised TimeOut = refl
 tags-recognised Empty = refl
 tags-recognised Restart = refl
+tags-recognised (Scan byte) = refl
 
 -- ---- what a refusal leaves
 

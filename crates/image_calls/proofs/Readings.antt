@@ -10,7 +10,7 @@ use lib.Dec.{eqb}
 use lib.ListN.{length, drop, length-drop}
 use Rattle.bits.specs.Choice.{if_then_else_}
 use Rattle.events.specs.declared.Event.{Event}
-use Rattle.events.specs.declared.Event.the-variants.{Key, Call, Poll, TimeOut, Empty, Restart}
+use Rattle.events.specs.declared.Event.the-variants.{Key, Call, Poll, TimeOut, Empty, Restart, Scan}
 use Rattle.pack.specs.declared.Read.{Read}
 use Rattle.pack.specs.declared.Read.the-variants as read
 use Rattle.pack.specs.Reading.{readAt, restOf, refusalOf}
@@ -50,6 +50,7 @@ some-tag Poll = refl
 some-tag TimeOut = refl
 some-tag Empty = refl
 some-tag Restart = refl
+some-tag (Scan byte) = refl
 
 as-parsed : (readings : ℕ) (pack : List ℕ) (start : ℕ) → eventsBy readings pack start ≡ map written (parseBy readings pack start .events)
 unfolding parseBy if_then_else_

@@ -3,6 +3,7 @@
 -- Assumes nothing.
 use Prim.Native.Nat.{_/_}
 use mathlib.Core.Path.{_≡_, ap, sym, _∙_}
+use mathlib.Core.List.{[]}
 use Rattle.answers.specs.declared.Answer.the-variants.{Done}
 use Rattle.answers.specs.Answers.{ansOf}
 use Rattle.translation.specs.Translation.{setOf}
@@ -26,5 +27,5 @@ unfolding imageOf serviceOf newService
 remade-image image =
     let set = setOf (codesAt (image .input / 16)) in
     let bits = image .flags .byte17 / 16 in
-    let settled : after (serviceOf image) (resynchronisation (setIn (serviceOf image))) ≡ newService set bits = only-locks-stay (serviceOf image) in
+    let settled : after (serviceOf image) (resynchronisation [] (setIn (serviceOf image))) ≡ newService set bits = only-locks-stay [] (serviceOf image) in
     ap shownRestart (sym (made-anew set bits) ∙ ap imageOf (sym settled))

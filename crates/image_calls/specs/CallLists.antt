@@ -4,6 +4,7 @@ use Prim.Native.Nat.{ℕ, _/_, _≤_}
 use mathlib.Core.Path.{_≡_}
 use mathlib.Core.List.{List, [], _∷_, _++_, map}
 use Rattle.translation.specs.declared.CodeSet.{CodeSet}
+use Rattle.state.specs.declared.Device.{Device}
 use Rattle.state.specs.State.{newService}
 use Rattle.events.specs.Run.{Shown}
 use Rattle.events.specs.Resynchronised.{resynchronisation, setIn}
@@ -63,13 +64,13 @@ made set image locks = makeTo set image locks .image
 abbrev pub setTo : Image → CodeSet
 setTo image = setIn (serviceOf image)
 
--- Demand 3 of images: any calls, the all-up run of the set in force with E and R, and any further calls, with bytes as events or frames, and
+-- Demand 3 of images: any calls, the all-up run at both ports in any turns, E and R, and any further calls, with bytes as events or frames, and
 -- refused reports and frames anywhere; the further calls are seen as on an image made on that set with the lock bits that stand
 abbrev pub ImagesForget : Type 0
 ImagesForget =
-    (image other : Image) (set : CodeSet) (locks : ℕ) → locks ≤ 15 → (first settling further : List Item) →
+    (turns : List Device) (image other : Image) (set : CodeSet) (locks : ℕ) → locks ≤ 15 → (first settling further : List Item) →
     let begun = afterCalls (made set image locks) first in
-    ranItems (serviceOf begun) settling ≡ map runs (resynchronisation (setTo begun)) →
+    ranItems (serviceOf begun) settling ≡ map runs (resynchronisation turns (setTo begun)) →
     let settled = afterCalls (made set image locks) (first ++ settling) in
     seenCalls settled further ≡ seenCalls (made (setTo settled) other (flagsTo settled .byte17 / 16)) further
 

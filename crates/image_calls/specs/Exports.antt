@@ -3,7 +3,7 @@
 -- Assumes nothing.
 use Prim.Native.Nat.{ℕ, _+_}
 use mathlib.Core.Bool.{Bool, true, false}
-use mathlib.Core.List.{List}
+use mathlib.Core.List.{List, []}
 use lib.Dec.{eqb, ltb}
 use Rattle.bits.specs.Choice.{if_then_else_}
 use Rattle.frame.specs.declared.Reading.{Reading}
@@ -13,13 +13,13 @@ use Rattle.line.specs.State.{sentOf}
 use Rattle.translation.specs.declared.CodeSet.{CodeSet}
 use Rattle.state.specs.declared.Service.{Service}
 use Rattle.events.specs.declared.Event.{Event}
-use Rattle.events.specs.declared.Event.the-variants.{Key, Call, Poll, TimeOut, Empty, Restart}
+use Rattle.events.specs.declared.Event.the-variants.{Key, Call, Poll, TimeOut, Empty, Restart, Scan}
 use Rattle.events.specs.declared.Outcome.{Outcome}
 use Rattle.state.specs.State.{makeOf}
 use Rattle.answers.specs.declared.Answer.{Answer}
 use Rattle.answers.specs.declared.Answer.the-variants.{Done}
 use Rattle.answers.specs.Answers.{ansOf, wordOf}
-use Rattle.events.specs.Tags.{keyTag, callTag, pollTag, timeOutTag, emptyTag, restartTag, tagOf}
+use Rattle.events.specs.Tags.{keyTag, callTag, pollTag, timeOutTag, emptyTag, restartTag, scanTag, tagOf}
 use Rattle.events.specs.Run.{Shown as Seen, after}
 use Rattle.events.specs.Step.{stepOf}
 use Rattle.events.specs.Sets.{changeOf}
@@ -102,6 +102,7 @@ written Poll = record { tag = tagOf Poll; a = 0; b = 0; c = 0 }
 written TimeOut = record { tag = tagOf TimeOut; a = 0; b = 0; c = 0 }
 written Empty = record { tag = tagOf Empty; a = 0; b = 0; c = 0 }
 written Restart = record { tag = tagOf Restart; a = 0; b = 0; c = 0 }
+written (Scan byte) = record { tag = tagOf (Scan byte); a = byte; b = 0; c = 0 }
 
 -- the events by the capitals that a pack has for them
 unfoldable pub recognised : Tagged → Recognised
@@ -112,6 +113,7 @@ recognised tagged =
     else if eqb (tagged .tag) timeOutTag then recognised-as.Event TimeOut
     else if eqb (tagged .tag) emptyTag then recognised-as.Event Empty
     else if eqb (tagged .tag) restartTag then recognised-as.Event Restart
+    else if eqb (tagged .tag) scanTag then recognised-as.Event (Scan (tagged .a))
     else recognised-as.Unknown
 
 abbrev pub isUnknown : Recognised → Bool
@@ -188,8 +190,8 @@ writtenTo image tagged buffer = writtenAs image (recognised tagged) buffer
 abbrev pub flagsTo : Image → FlagBytes
 flagsTo image = flagBytesOf (serviceOf image)
 
--- the image after the all-up run of the set in force, E and R, and what this R shows
+-- the image after the all-up run at both ports, E and R, and what this R shows
 abbrev pub resynchronisedTo : Image → Changed
 resynchronisedTo image =
-    let settled = after (serviceOf image) (resynchronisation (setIn (serviceOf image))) in
+    let settled = after (serviceOf image) (resynchronisation [] (setIn (serviceOf image))) in
     record { image = imageOf settled; shown = shownWith (flagBytesOf settled) (ansOf Done) 0 0 }

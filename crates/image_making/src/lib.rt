@@ -8,6 +8,7 @@ use image::CommandImage;
 use image::FlagBytes;
 use image::Image;
 use image::LineImage;
+use image::PortImage;
 use image::QueueImage;
 use image::SettingImage;
 use image::WordImage;
@@ -65,6 +66,16 @@ pub fn new(set: CodeSet, bits: u8) -> Image
             words: [WordImage { scan: 0, ascii: 0 }; 16],
             head: 0,
             count: 0,
+        },
+        scanner: PortImage {
+            prefix: 0,
+            sum: 0,
+            shift: 0,
+            ctrl: 0,
+            alt: 0,
+            locks: 0,
+            insert: 0,
+            sysreq: 0,
         },
     }
 }

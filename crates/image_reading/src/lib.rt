@@ -40,6 +40,12 @@ pub fn tagged_of(event: Event) -> Tagged
         Event::TimeOut => plain,
         Event::Empty => plain,
         Event::Restart => plain,
+        Event::Scan(scanned) => Tagged {
+            tag,
+            a: scanned,
+            b: 0,
+            c: 0,
+        },
     }
 }
 
@@ -55,6 +61,7 @@ pub fn recognise(tagged: Tagged) -> Recognised
         tags::TIME_OUT => Recognised::Event(Event::TimeOut),
         tags::EMPTY => Recognised::Event(Event::Empty),
         tags::RESTART => Recognised::Event(Event::Restart),
+        tags::SCAN => Recognised::Event(Event::Scan(tagged.a)),
         _ => Recognised::Unknown,
     }
 }

@@ -33,7 +33,7 @@ pub fn make_set_two(image: Image, bits: u8) -> Refused
     made(CodeSet::Two, image, bits)
 }
 
-// As the all-up run of its set, E and R leave it, with what this R shows: new, but for the set and the lock bits, the upper half of byte 17.
+// As the all-up run at both ports, E and R leave it, with what this R shows: new, but for the set and the lock bits, the upper half of byte 17.
 pub fn resynchronise(image: Image) -> Changed
     ensures { λ r. ⌜ r ≡ resynchronisedTo image ⌝ }
 {

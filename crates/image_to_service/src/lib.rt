@@ -1,16 +1,18 @@
 // Images to the services that they mean.
 ghost use mathlib.Core.Path.{_≡_};
-ghost use Rattle.image.specs.Image.{portAt, serviceOf};
+ghost use Rattle.image.specs.Image.{keyboardAt, serviceOf};
 use image::Image;
 use port::Port;
+use state::Ports;
 use state::Service;
 
 mod flags_part;
 mod line_part;
+mod port_part;
 mod queue_part;
 
-fn port_of(image: Image) -> Port
-    ensures { λ r. ⌜ r ≡ portAt image ⌝ }
+fn keyboard_of(image: Image) -> Port
+    ensures { λ r. ⌜ r ≡ keyboardAt image ⌝ }
 {
     let flags = image.flags;
     Port {
@@ -27,8 +29,12 @@ pub fn service_of(image: Image) -> Service
     let flags = image.flags;
     let line = image.line;
     let queue = image.queue;
+    let scanner = image.scanner;
     Service {
-        port: port_of(image),
+        ports: Ports {
+            keyboard: keyboard_of(image),
+            scanner: port_part::port_of(scanner),
+        },
         shared: flags_part::shared_of(flags),
         queue: queue_part::queue_of(queue),
         line: line_part::line_of(line, flags.byte97),

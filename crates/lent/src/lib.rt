@@ -70,7 +70,7 @@ pub fn report(service: &mut Service, event: Event, buffer: &mut [u8]) -> u8
     tried.refusal
 }
 
-// As if the all-up run of the set in force, E and R were fed; answered as this R is.
+// As if the all-up run at both ports, E and R were fed; answered as this R is.
 pub fn resynchronise(service: &mut Service) -> Answered
     ensures { λ r. ⌜ (now (service .exit) ≡ resynchronisedIn (now (service .entry)) .service)
         × (r ≡ resynchronisedIn (now (service .entry)) .answered) ⌝ }

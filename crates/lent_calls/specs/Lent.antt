@@ -1,7 +1,7 @@
 -- What a lent call leaves in the service, and what it returns: the core's outcome, in two parts.
 -- Assumes nothing.
 use Prim.Native.Nat.{ℕ}
-use mathlib.Core.List.{List}
+use mathlib.Core.List.{List, []}
 use lib.Dec.{eqb}
 use Rattle.bits.specs.Choice.{if_then_else_}
 use Rattle.translation.specs.declared.CodeSet.{CodeSet}
@@ -53,7 +53,7 @@ tellsOf reported = record { service = reported .service; refusal = reported .ref
 unfoldable pub reportedIn : Service → Event → List ℕ → Tried
 reportedIn service event buffer = tellsOf (reportedOf service event buffer)
 
--- the service after the all-up run of the set in force, E and R, with what this R answers
+-- the service after the all-up run at both ports, E and R, with what this R answers
 unfoldable pub resynchronisedIn : Service → Stepped
 resynchronisedIn service =
-    record { service = after service (resynchronisation (setIn service)); answered = record { answer = Done; sent = 0 } }
+    record { service = after service (resynchronisation [] (setIn service)); answered = record { answer = Done; sent = 0 } }

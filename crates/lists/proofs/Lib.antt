@@ -2,4 +2,5 @@ pub mod ItemLaws
 pub mod TakenOut
 pub mod EventLaws
 pub mod Demand3
+pub mod Ports
 pub mod SetTwoCases

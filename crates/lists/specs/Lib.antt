@@ -3,4 +3,5 @@ pub mod ItemLaws
 pub mod TakenOut
 pub mod EventLaws
 pub mod Demand3
+pub mod Ports
 pub mod SetTwoCases

@@ -9,12 +9,11 @@ use lib.Dec.{eqb}
 use lib.ListN.{length, take}
 use Rattle.bits.specs.Choice.{if_then_else_}
 use Rattle.bits.proofs.Choice.{by-test}
-use Rattle.events.specs.declared.Event.{Event}
-use Rattle.events.specs.declared.Event.the-variants.{Key, Call, Poll, TimeOut, Empty, Restart}
+use Rattle.events.specs.declared.Event.the-variants.{Key, Call, Poll, TimeOut, Empty, Restart, Scan}
 use Rattle.pack.specs.declared.Read.{Read}
 use Rattle.pack.specs.declared.Read.the-variants as read
-use Rattle.events.specs.Tags.{keyTag, callTag, pollTag, timeOutTag, emptyTag, restartTag}
-use Rattle.pack.specs.Reading.{keyOf, callOf, taggedOf, firstOf}
+use Rattle.events.specs.Tags.{keyTag, callTag, pollTag, timeOutTag, emptyTag, restartTag, scanTag}
+use Rattle.pack.specs.Reading.{byteOf, callOf, taggedOf, firstOf}
 use Rattle.pack.specs.Encoding.{encodeEvent}
 use Rattle.pack.specs.Laws.{EncodedByTag, EncodedIsRead, ReadIsEncoded}
 
@@ -25,6 +24,7 @@ encoded-by-tag Poll = refl
 encoded-by-tag TimeOut = refl
 encoded-by-tag Empty = refl
 encoded-by-tag Restart = refl
+encoded-by-tag (Scan byte) = refl
 
 pub encoded-is-read : EncodedIsRead
 unfolding firstOf taggedOf if_then_else_
@@ -34,6 +34,7 @@ encoded-is-read Poll later = refl
 encoded-is-read TimeOut later = refl
 encoded-is-read Empty later = refl
 encoded-is-read Restart later = refl
+encoded-is-read (Scan byte) later = refl
 
 -- what the bytes of a part have to do with a reading of it
 abbrev Found : List ℕ → Read → Type 0
@@ -44,9 +45,13 @@ Found part read.CutShort = Unit {0}
 Found part read.TooLong = Unit {0}
 Found part read.Beyond = Unit {0}
 
-found-key : (operands : List ℕ) → Found (keyTag ∷ operands) (keyOf operands)
+found-key : (operands : List ℕ) → Found (keyTag ∷ operands) (byteOf Key operands)
 found-key [] = tt
 found-key (byte ∷ later) = (omega arith, omega arith, refl)
+
+found-scan : (operands : List ℕ) → Found (scanTag ∷ operands) (byteOf Scan operands)
+found-scan [] = tt
+found-scan (byte ∷ later) = (omega arith, omega arith, refl)
 
 found-call : (operands : List ℕ) → Found (callTag ∷ operands) (callOf operands)
 found-call [] = tt
@@ -63,7 +68,8 @@ found-tagged tag operands =
     by-test Here (eqb tag pollTag) _ _ (λ poll. (omega arith, omega arith, rw (eqb-true tag pollTag poll))) (λ _.
     by-test Here (eqb tag timeOutTag) _ _ (λ out. (omega arith, omega arith, rw (eqb-true tag timeOutTag out))) (λ _.
     by-test Here (eqb tag emptyTag) _ _ (λ empty. (omega arith, omega arith, rw (eqb-true tag emptyTag empty))) (λ _.
-    by-test Here (eqb tag restartTag) _ _ (λ restart. (omega arith, omega arith, rw (eqb-true tag restartTag restart))) (λ _. tt))))))
+    by-test Here (eqb tag restartTag) _ _ (λ restart. (omega arith, omega arith, rw (eqb-true tag restartTag restart))) (λ _.
+    by-test Here (eqb tag scanTag) _ _ (λ scan. rw (eqb-true tag scanTag scan) (found-scan operands)) (λ _. tt)))))))
 
 found : (part : List ℕ) → Found part (firstOf part)
 unfolding firstOf

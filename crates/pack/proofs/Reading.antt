@@ -13,10 +13,11 @@ use lib.ListN.{length, getD, take, drop, length-drop, drop-of-length-le}
 use lib.Seq.{take-all}
 use Rattle.bits.specs.Choice.{if_then_else_}
 use Rattle.bits.proofs.Choice.{by-test}
-use Rattle.events.specs.declared.Event.the-variants.{Key, Call}
+use Rattle.events.specs.declared.Event.{Event}
+use Rattle.events.specs.declared.Event.the-variants.{Call}
 use Rattle.pack.specs.declared.Read.{Read}
 use Rattle.pack.specs.declared.Read.the-variants as read
-use Rattle.pack.specs.Reading.{limit, keyOf, callOf, taggedOf, firstOf, readAt, partAt, restOf}
+use Rattle.pack.specs.Reading.{limit, byteOf, callOf, taggedOf, firstOf, readAt, partAt, restOf}
 use Rattle.pack.specs.Laws.{Stops}
 use Rattle.pack.proofs.Read as declared
 
@@ -28,13 +29,13 @@ to-end start bytes = take-all (length bytes - start) (drop start bytes) (simp le
 pub by-order : {Q : Type 0} (a b : ℕ) → (a < b → Q) → (b ≤ a → Q) → Q
 by-order {Q = Q} a b less not-less = by-test (λ (_ : Bool). Q) (ltb a b) true false (λ e. less (ltb-true a b e)) (λ e. not-less (ltb-false a b e))
 
-pub key-cut : (operands : List ℕ) → length operands < 1 → keyOf operands ≡ read.CutShort
-key-cut [] short = refl
-key-cut (byte ∷ later) short = absurd (omega arith)
+pub byte-cut : (event : ℕ → Event) (operands : List ℕ) → length operands < 1 → byteOf event operands ≡ read.CutShort
+byte-cut event [] short = refl
+byte-cut event (byte ∷ later) short = absurd (omega arith)
 
-pub key-whole : (operands : List ℕ) → 1 ≤ length operands → keyOf operands ≡ read.Event (Key (getD operands 0 0)) 2
-key-whole [] long = absurd (omega arith)
-key-whole (byte ∷ later) long = refl
+pub byte-whole : (event : ℕ → Event) (operands : List ℕ) → 1 ≤ length operands → byteOf event operands ≡ read.Event (event (getD operands 0 0)) 2
+byte-whole event [] long = absurd (omega arith)
+byte-whole event (byte ∷ later) long = refl
 
 pub call-cut : (operands : List ℕ) → length operands < 3 → callOf operands ≡ read.CutShort
 call-cut [] short = refl

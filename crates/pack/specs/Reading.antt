@@ -5,8 +5,9 @@ use mathlib.Core.List.{List, [], _∷_}
 use lib.Dec.{eqb, ltb}
 use lib.ListN.{length, drop}
 use Rattle.bits.specs.Choice.{if_then_else_}
-use Rattle.events.specs.declared.Event.the-variants.{Key, Call, Poll, TimeOut, Empty, Restart}
-use Rattle.events.specs.Tags.{keyTag, callTag, pollTag, timeOutTag, emptyTag, restartTag}
+use Rattle.events.specs.declared.Event.{Event}
+use Rattle.events.specs.declared.Event.the-variants.{Key, Call, Poll, TimeOut, Empty, Restart, Scan}
+use Rattle.events.specs.Tags.{keyTag, callTag, pollTag, timeOutTag, emptyTag, restartTag, scanTag}
 use Rattle.pack.specs.declared.Read.{Read}
 use Rattle.pack.specs.declared.Read.the-variants as read
 
@@ -14,10 +15,10 @@ use Rattle.pack.specs.declared.Read.the-variants as read
 abbrev pub limit : ℕ
 limit = 32768
 
--- K b, two bytes; refusal 7 where b is missing
-abbrev pub keyOf : List ℕ → Read
-keyOf [] = read.CutShort
-keyOf (byte ∷ later) = read.Event (Key byte) 2
+-- K b and, by document 02, W-206, S b: two bytes; refusal 7 where b is missing
+abbrev pub byteOf : (ℕ → Event) → List ℕ → Read
+byteOf event [] = read.CutShort
+byteOf event (byte ∷ later) = read.Event (event byte) 2
 
 -- C f a b, four bytes; refusal 7 where one is missing, also one that the function does not use
 abbrev pub callOf : List ℕ → Read
@@ -29,12 +30,13 @@ callOf (function ∷ a ∷ b ∷ later) = read.Event (Call function a b) 4
 -- the event of a tag, with the bytes after it; P, T, E and R are the tag alone; refusal 6 for any other tag
 unfoldable pub taggedOf : ℕ → List ℕ → Read
 taggedOf tag operands =
-    if eqb tag keyTag then keyOf operands
+    if eqb tag keyTag then byteOf Key operands
     else if eqb tag callTag then callOf operands
     else if eqb tag pollTag then read.Event Poll 1
     else if eqb tag timeOutTag then read.Event TimeOut 1
     else if eqb tag emptyTag then read.Event Empty 1
     else if eqb tag restartTag then read.Event Restart 1
+    else if eqb tag scanTag then byteOf Scan operands
     else read.UnknownTag
 
 -- the first event of a part; an empty part is the end

@@ -1,6 +1,7 @@
 // Packs: one event is read from a part of a pack, and the part after it is handed on.
 ghost use mathlib.Core.Path.{_≡_};
-ghost use Rattle.pack.specs.Reading.{keyOf, callOf, taggedOf, firstOf, readAt, partAt, restOf, refusalOf};
+ghost use Rattle.events.specs.declared.Event.the-variants.{Key, Scan};
+ghost use Rattle.pack.specs.Reading.{byteOf, callOf, taggedOf, firstOf, readAt, partAt, restOf, refusalOf};
 use events::Event;
 use events::tags;
 
@@ -33,13 +34,24 @@ pub fn refusal(read: Read) -> u8
 
 // K b, from the bytes after the tag.
 fn read_key(operands: &[u8]) -> Read
-    ensures { λ r. ⌜ r ≡ keyOf (now (operands .entry)) ⌝ }
+    ensures { λ r. ⌜ r ≡ byteOf Key (now (operands .entry)) ⌝ }
 {
     if operands.len() < 1 {
         return Read::CutShort;
     }
     let byte = operands[0];
     Read::Event(Event::Key(byte), 2)
+}
+
+// S b, from the bytes after the tag.
+fn read_scan(operands: &[u8]) -> Read
+    ensures { λ r. ⌜ r ≡ byteOf Scan (now (operands .entry)) ⌝ }
+{
+    if operands.len() < 1 {
+        return Read::CutShort;
+    }
+    let byte = operands[0];
+    Read::Event(Event::Scan(byte), 2)
 }
 
 // C f a b, from the bytes after the tag.
@@ -76,6 +88,9 @@ fn read_tagged(tag: u8, operands: &[u8]) -> Read
     }
     if tag == tags::RESTART {
         return Read::Event(Event::Restart, 1);
+    }
+    if tag == tags::SCAN {
+        return read_scan(operands);
     }
     Read::UnknownTag
 }

@@ -7,7 +7,14 @@ use answers::Refusal;
 use events::Event;
 use events::Outcome;
 use frame::Reading;
+use state::Device;
 use state::Service;
+
+// A byte, and the device that sent it.
+struct Incoming {
+    device: Device,
+    byte: u8,
+}
 
 // The queue is emptied.
 pub fn empty(service: Service) -> Outcome
@@ -17,18 +24,27 @@ pub fn empty(service: Service) -> Outcome
     events_outcomes::answered(next, Answer::Done)
 }
 
-// One event.
+// One event. Bytes of both devices go one way, so that the decoder is called from one place, where the compiler puts its code.
 pub fn step(service: Service, event: Event) -> Outcome
     ensures { λ r. ⌜ r ≡ stepOf service event ⌝ }
 {
-    match event {
-        Event::Key(byte) => events_keyboard::key(service, byte),
-        Event::Call(function, a, b) => events_functions::call(service, function, a, b),
-        Event::Poll => events_commands::poll(service),
-        Event::TimeOut => events_commands::time_out(service),
-        Event::Empty => empty(service),
-        Event::Restart => events_commands::restart(service),
-    }
+    let incoming = match event {
+        Event::Key(byte) => Incoming {
+            device: Device::Keyboard,
+            byte,
+        },
+        Event::Call(function, a, b) => return events_functions::call(service, function, a, b),
+        Event::Poll => return events_commands::poll(service),
+        Event::TimeOut => return events_commands::time_out(service),
+        Event::Empty => return empty(service),
+        Event::Restart => return events_commands::restart(service),
+        Event::Scan(scanned) => Incoming {
+            device: Device::Scanner,
+            byte: scanned,
+        },
+    };
+    let device = incoming.device;
+    events_keyboard::byte(device, service, incoming.byte)
 }
 
 // One frame: the event of the byte that it carries, or refused and nothing fed.

@@ -1,5 +1,6 @@
 // Services newly made, after a change of set, and resynchronised. Every value of the types has a meaning, so no call asks anything.
 ghost use mathlib.Core.Path.{_≡_};
+ghost use mathlib.Core.List.{[]};
 ghost use Rattle.state.specs.State.{quietOf, newService, makeOf};
 ghost use Rattle.events.specs.Sets.{changeOf};
 ghost use Rattle.events.specs.Run.{after};
@@ -10,18 +11,22 @@ use line::Line;
 use port::Locks;
 use port::Shared;
 use state::Made;
+use state::Ports;
 use state::Service;
 use translation::CodeSet;
 
-// A service with no key down, no code marked and no word.
+// A service with no key down at either port, no code marked and no word.
 fn quiet(set: CodeSet, locks: Locks, paused: bool, line: Line) -> Service
     ensures { λ r. ⌜ r ≡ quietOf set locks paused line ⌝ }
 {
-    let port = port::new();
+    let ports = Ports {
+        keyboard: port::new(),
+        scanner: port::new(),
+    };
     let queue = queue::empty();
     let codes = translation::unmarked(set);
     Service {
-        port,
+        ports,
         shared: Shared { locks, paused },
         queue,
         line,
@@ -59,9 +64,9 @@ pub fn change(service: Service, set: CodeSet) -> Outcome
     events_outcomes::answered(next, Answer::Nothing)
 }
 
-// What the all-up run of the set in force, E and R leave, without feeding them: only the locks and the set stay.
+// What the all-up run at both ports, E and R leave, without feeding them: only the locks and the set stay.
 pub fn resynchronise(service: Service) -> Service
-    ensures { λ r. ⌜ r ≡ after service (resynchronisation (setIn service)) ⌝ }
+    ensures { λ r. ⌜ r ≡ after service (resynchronisation [] (setIn service)) ⌝ }
 {
     let codes = service.codes;
     let set = translation::set_of(codes);

@@ -16,6 +16,9 @@ use Rattle.line.specs.State.{newLine}
 use Rattle.translation.specs.declared.CodeSet.{CodeSet}
 use Rattle.translation.specs.declared.Codes.{Codes}
 use Rattle.translation.specs.Translation.{unmarkedOf}
+use Rattle.state.specs.declared.Device.{Device}
+use Rattle.state.specs.declared.Device.the-variants.{Keyboard, Scanner}
+use Rattle.state.specs.declared.Ports.{Ports}
 use Rattle.state.specs.declared.Service.{Service}
 use Rattle.state.specs.declared.Made.{Made}
 
@@ -29,11 +32,11 @@ locksOf bits =
       insert = bit3 bits;
     }
 
--- no key down, no code marked, no word in the queue
+-- no key down at either port, no code marked, no word in the queue
 abbrev pub quietOf : CodeSet → Locks → Bool → Line → Service
 quietOf set locks paused line =
     record {
-      port = newPort;
+      ports = record { keyboard = newPort; scanner = newPort };
       shared = record { locks = locks; paused = paused };
       queue = emptyQueue;
       line = line;
@@ -53,18 +56,32 @@ unfoldable pub makeOf : CodeSet → ℕ → Made
 makeOf set bits =
     if ltb 15 bits then record { refusal = 1; service = newService set 0 } else record { refusal = 0; service = newService set bits }
 
-abbrev pub withPort : Service → Port → Shared → Service
-withPort service port shared =
-    record { port = port; shared = shared; queue = service .queue; line = service .line; codes = service .codes }
+-- document 02, W-206: each device has a port of its own
+abbrev pub portOf : Device → Ports → Port
+portOf Keyboard ports = ports .keyboard
+portOf Scanner ports = ports .scanner
+
+abbrev pub portsWith : Device → Port → Ports → Ports
+portsWith Keyboard port ports = record { keyboard = port; scanner = ports .scanner }
+portsWith Scanner port ports = record { keyboard = ports .keyboard; scanner = port }
+
+-- the port of a device in the keyboard's place, and the other one in the scanner's
+abbrev pub turnedTo : Device → Ports → Ports
+turnedTo Keyboard ports = ports
+turnedTo Scanner ports = record { keyboard = ports .scanner; scanner = ports .keyboard }
+
+abbrev pub withPorts : Service → Ports → Shared → Service
+withPorts service ports shared =
+    record { ports = ports; shared = shared; queue = service .queue; line = service .line; codes = service .codes }
 
 abbrev pub withQueue : Service → Queue → Service
 withQueue service queue =
-    record { port = service .port; shared = service .shared; queue = queue; line = service .line; codes = service .codes }
+    record { ports = service .ports; shared = service .shared; queue = queue; line = service .line; codes = service .codes }
 
 abbrev pub withLine : Service → Line → Service
 withLine service line =
-    record { port = service .port; shared = service .shared; queue = service .queue; line = line; codes = service .codes }
+    record { ports = service .ports; shared = service .shared; queue = service .queue; line = line; codes = service .codes }
 
 abbrev pub withCodes : Service → Codes → Service
 withCodes service codes =
-    record { port = service .port; shared = service .shared; queue = service .queue; line = service .line; codes = codes }
+    record { ports = service .ports; shared = service .shared; queue = service .queue; line = service .line; codes = codes }

@@ -32,7 +32,7 @@ fn e1_open(prefix: Prefix) -> bool
 pub fn byte17(service: Service) -> u8
     ensures { λ r. ⌜ r ≡ byte17Of service ⌝ }
 {
-    let modifiers = service.port.modifiers;
+    let modifiers = service.ports.keyboard.modifiers;
     let locks = service.shared.locks;
     bits::byte(
         modifiers.shift.right,
@@ -50,8 +50,8 @@ pub fn byte17(service: Service) -> u8
 pub fn byte18(service: Service) -> u8
     ensures { λ r. ⌜ r ≡ byte18Of service ⌝ }
 {
-    let modifiers = service.port.modifiers;
-    let held = service.port.held;
+    let modifiers = service.ports.keyboard.modifiers;
+    let held = service.ports.keyboard.held;
     bits::byte(
         modifiers.ctrl.left,
         modifiers.alt.left,
@@ -68,7 +68,7 @@ pub fn byte18(service: Service) -> u8
 pub fn byte96(service: Service) -> u8
     ensures { λ r. ⌜ r ≡ byte96Of service ⌝ }
 {
-    let port = service.port;
+    let port = service.ports.keyboard;
     let modifiers = port.modifiers;
     let prefix = port.prefix;
     bits::byte(

@@ -1,6 +1,6 @@
 // The state of the service, and how its flag bytes show it.
 ghost use mathlib.Core.Path.{_≡_};
-ghost use Rattle.state.specs.State.{locksOf, withQueue, withLine, withCodes};
+ghost use Rattle.state.specs.State.{locksOf, turnedTo, withQueue, withLine, withCodes};
 use line::Line;
 use port::Locks;
 use port::Port;
@@ -11,9 +11,21 @@ use translation::Codes;
 pub mod flags;
 pub mod status;
 
-// The order of the fields is that in which a copy is cheapest; it means nothing.
+// Whose bytes reach a port.
+pub enum Device {
+    Keyboard,
+    Scanner,
+}
+
+// Each device has a port of its own.
+pub struct Ports {
+    pub keyboard: Port,
+    pub scanner: Port,
+}
+
+// The codes are the keyboard's alone: a scanner sends set 1. The order of the fields is that in which a copy is cheapest; it means nothing.
 pub struct Service {
-    pub port: Port,
+    pub ports: Ports,
     pub shared: Shared,
     pub codes: Codes,
     pub queue: Queue,
@@ -35,6 +47,23 @@ pub fn locks_of(bits: u8) -> Locks
         num: bits / 2 % 2 == 1,
         caps: bits / 4 % 2 == 1,
         insert: bits / 8 % 2 == 1,
+    }
+}
+
+// The ports with that of a device in the keyboard's place, and the other one in the scanner's.
+pub fn turned(device: Device, ports: Ports) -> Ports
+    ensures { λ r. ⌜ r ≡ turnedTo device ports ⌝ }
+{
+    match device {
+        Device::Keyboard => ports,
+        Device::Scanner => {
+            let keyboard = ports.keyboard;
+            let scanner = ports.scanner;
+            Ports {
+                keyboard: scanner,
+                scanner: keyboard,
+            }
+        }
     }
 }
 
@@ -60,12 +89,12 @@ pub fn with_line(service: Service, line: Line) -> Service
 pub fn with_codes(service: Service, codes: Codes) -> Service
     ensures { λ r. ⌜ r ≡ withCodes service codes ⌝ }
 {
-    let port = service.port;
+    let ports = service.ports;
     let shared = service.shared;
     let queue = service.queue;
     let line = service.line;
     Service {
-        port,
+        ports,
         shared,
         queue,
         line,

@@ -7,8 +7,8 @@ use crate::Service;
 pub fn status_high(service: Service) -> u8
     ensures { λ r. ⌜ r ≡ statusHigh service ⌝ }
 {
-    let modifiers = service.port.modifiers;
-    let held = service.port.held;
+    let modifiers = service.ports.keyboard.modifiers;
+    let held = service.ports.keyboard.held;
     bits::byte(
         modifiers.ctrl.left,
         modifiers.alt.left,

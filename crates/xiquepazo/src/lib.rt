@@ -79,7 +79,7 @@ pub extern "C" fn xiquepazo_report(image: &mut Image, event: Tagged, buffer: &mu
     refused.refusal
 }
 
-// As if the all-up run of the set in force, E and R were fed; shows what this R shows.
+// As if the all-up run at both ports, E and R were fed; shows what this R shows.
 #[no_mangle]
 pub extern "C" fn xiquepazo_resynchronise(image: &mut Image) -> Shown
     ensures { λ r. ⌜ (now (image .exit) ≡ resynchronisedTo (now (image .entry)) .image)

@@ -3,7 +3,10 @@
 use reference::{CodeSet, Event, Input, Outcome, REPORT_LENGTH};
 
 /// Bytes of a service as the library keeps it.
-pub const IMAGE_LENGTH: usize = 64;
+pub const IMAGE_LENGTH: usize = 72;
+
+/// Bytes of the scanner's port, which stand last.
+pub const SCANNER_LENGTH: usize = 8;
 
 /// Where each number of a service stands in those bytes, as the header says.
 pub mod place {
@@ -29,6 +32,14 @@ pub mod place {
     /// Eight bytes each, the lowest first.
     pub const HEAD: usize = 48;
     pub const COUNT: usize = 56;
+    pub const SCANNER_PREFIX: usize = 64;
+    pub const SCANNER_SUM: usize = 65;
+    pub const SCANNER_SHIFT: usize = 66;
+    pub const SCANNER_CTRL: usize = 67;
+    pub const SCANNER_ALT: usize = 68;
+    pub const SCANNER_LOCKS: usize = 69;
+    pub const SCANNER_INSERT: usize = 70;
+    pub const SCANNER_SYSREQ: usize = 71;
 }
 
 /// The bits of the flag bytes, each with the place of its byte.
@@ -67,9 +78,23 @@ pub mod flag {
     /// The bits that are read. The others follow from these, the prefix and the command, or have
     /// no meaning.
     pub const READ: [u8; 4] = [0xF3, 0xFF, 0x0C, 0xB7];
+
+    /// The bits that tell of both ports: the locks, the pause and the line. The others are the keyboard's
+    /// own.
+    pub const SHARED: [u8; 4] = [0xF0, 0x08, 0x00, 0xFF];
 }
 
-/// The open prefix, as a number; any other is read as none.
+/// The bits of the scanner's modifiers and of its lock keys that are held. Others are not read.
+pub mod held {
+    /// Of Shift, Ctrl and Alt alike.
+    pub const RIGHT: u8 = 0x01;
+    pub const LEFT: u8 = 0x02;
+    pub const SCROLL: u8 = 0x01;
+    pub const NUM: u8 = 0x02;
+    pub const CAPS: u8 = 0x04;
+}
+
+/// The open prefix of either port, as a number; any other is read as none.
 pub mod prefix {
     pub const NONE: u8 = 0;
     pub const E0: u8 = 1;
@@ -166,6 +191,10 @@ impl Image {
         self.event(&Event::Key(byte))
     }
 
+    pub fn scan(&mut self, byte: u8) -> Outcome {
+        self.event(&Event::Scan(byte))
+    }
+
     pub fn call(&mut self, function: u8, a: u8, b: u8) -> Outcome {
         self.event(&Event::Call(function, a, b))
     }
@@ -214,7 +243,19 @@ impl Image {
         Some(Reported { refusal, text })
     }
 
-    /// What the all-up run of the set in force, E and R leave; gives what this R shows.
+    /// Does what an input does, and gives what it shows and what is reported of it.
+    pub fn seen(&mut self, input: &Input) -> (Outcome, Option<Reported>) {
+        let reported = self.clone().report_of(input);
+        (self.input(input), reported)
+    }
+
+    /// A service newly made with the code set and the locks that stand in this one.
+    pub fn new_like(&self) -> Image {
+        let locks = self.flag_bytes()[0] >> 4;
+        Image::new_on(self.set(), locks).expect("there are four locks")
+    }
+
+    /// What the all-up runs of both ports, E and R leave; gives what this R shows.
     pub fn resynchronise(&mut self) -> Outcome {
         unsafe { xiquepazo_resynchronise(self) }.into()
     }
@@ -252,6 +293,35 @@ impl Image {
         let [byte_17, byte_18, byte_96, byte_97, ..] = self.bytes;
         [byte_17, byte_18, byte_96, byte_97]
     }
+
+    /// What stands beside the flag bytes of the two ports.
+    pub fn ports(&self) -> Ports {
+        Ports {
+            prefix_and_codes: self.bytes[place::PREFIX_AND_CODES],
+            sum: self.bytes[place::ALT_SUM],
+            scanner: self.scanner(),
+        }
+    }
+
+    /// The numbers of the scanner's port as they stand, in range or not.
+    pub fn scanner(&self) -> [u8; SCANNER_LENGTH] {
+        let (_, scanner) = self.bytes.split_at(place::SCANNER_PREFIX);
+        scanner.try_into().expect("it stands last")
+    }
+
+    /// Puts another port of the scanner, and leaves all else.
+    pub fn put_scanner(&mut self, numbers: [u8; SCANNER_LENGTH]) {
+        self.bytes[place::SCANNER_PREFIX..].copy_from_slice(&numbers);
+    }
+}
+
+/// Numbers of both ports: prefix, codes and Alt sum of the keyboard's, whose other bits are in the flag
+/// bytes, and all of the scanner's.
+#[derive(Clone, Copy, Debug, PartialEq, Eq)]
+pub struct Ports {
+    pub prefix_and_codes: u8,
+    pub sum: u8,
+    pub scanner: [u8; SCANNER_LENGTH],
 }
 
 /// The text of a report, and the number that the call for it returned.
@@ -283,9 +353,9 @@ pub fn frame_of(byte: u8) -> u16 {
 impl From<&Event> for Tagged {
     fn from(event: &Event) -> Tagged {
         let operands = match *event {
-            Event::Key(byte) => [byte, 0, 0],
+            Event::Key(byte) | Event::Scan(byte) => [byte, 0, 0],
             Event::Call(function, a, b) => [function, a, b],
-            _ => [0; 3],
+            Event::Poll | Event::TimeOut | Event::Empty | Event::Restart => [0; 3],
         };
         let tag = event.tag();
         Tagged { tag, operands }

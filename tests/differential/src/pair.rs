@@ -1,8 +1,10 @@
 //! What the tests hold the library to.
 
-use crate::place::PREFIX_AND_CODES;
-use crate::{codes, prefix, prefix_and_codes, Image, Reported};
-use reference::{report, CodeSet, Event, Input, Outcome, Service, Translation};
+use crate::{codes, held, prefix, prefix_and_codes, Image, Ports, Reported, SCANNER_LENGTH};
+use reference::generator::{random_inputs, Flavour, Random};
+use reference::prefix::Prefix;
+use reference::{flags, report};
+use reference::{CodeSet, Device, Event, Input, Outcome, Port, Service, Translation};
 
 /// The numbers of the prefixes, each with the bytes of set 1 that open it.
 pub const PREFIXES: [(u8, &[u8]); 5] = [
@@ -29,34 +31,84 @@ impl Pair {
         }
     }
 
+    /// After up to 59 random inputs.
+    pub fn used(random: &mut Random, flavour: Flavour, set: CodeSet, locks: u8) -> Pair {
+        let mut pair = Pair::new_on(set, locks);
+        let length = random.below(60);
+        for input in random_inputs(random, flavour, set, length) {
+            pair.input(&input);
+        }
+        pair
+    }
+
     pub fn event(&mut self, event: &Event) {
         self.input(&Input::Event(*event));
     }
 
-    /// Both show the same, and have the same prefix, set and mark after it.
+    pub fn events(&mut self, events: &[Event]) {
+        events.iter().for_each(|event| self.event(event));
+    }
+
+    /// Both show the same, and have the same ports, set and mark after it.
     pub fn input(&mut self, input: &Input) {
         let expected = self.service.input(input);
         assert_eq!(self.image.input(input), expected, "{input:X?}");
-        let byte = self.image.bytes[PREFIX_AND_CODES];
-        assert_eq!(byte, prefix_and_codes_due(&self.service), "{input:X?}");
+        let ports = self.image.ports();
+        assert_eq!(ports, ports_due(&self.service), "{input:X?}");
     }
 }
 
-/// The byte that is to stand for the prefix and for the codes that come. The reference does not tell its
-/// prefix: it is the one that can be opened anew and leaves the same service.
-pub fn prefix_and_codes_due(service: &Service) -> u8 {
+/// The numbers that are to stand for the ports of the reference.
+pub fn ports_due(service: &Service) -> Ports {
     let codes = match service.translation() {
         Translation::SetOne => codes::SET_1,
         Translation::SetTwo => codes::SET_2,
         Translation::SetTwoMarked => codes::SET_2_MARKED,
     };
-    let is_open =
-        |&(prefix, _): &(u8, &[u8])| with_prefix_and_codes(service, prefix, codes) == *service;
-    let (prefix, _) = PREFIXES.into_iter().find(is_open).unwrap();
-    prefix_and_codes(prefix, codes)
+    let keyboard = service.port(Device::Keyboard);
+    Ports {
+        prefix_and_codes: prefix_and_codes(prefix_due(keyboard.prefix()), codes),
+        sum: keyboard.alt_sum(),
+        scanner: scanner_due(service.port(Device::Scanner)),
+    }
 }
 
-/// The same service but for its prefix and the codes that come, which are those of these numbers.
+fn prefix_due(prefix: Prefix) -> u8 {
+    match prefix {
+        Prefix::Closed => prefix::NONE,
+        Prefix::E0 => prefix::E0,
+        Prefix::E1 => prefix::E1,
+        Prefix::E1Then1D => prefix::E1_1D,
+        Prefix::E1Then9D => prefix::E1_9D,
+    }
+}
+
+/// The reference keeps the keys of either port where the flag bytes would show them.
+fn scanner_due(port: &Port) -> [u8; SCANNER_LENGTH] {
+    let [byte_17, byte_18, byte_96] = [
+        port.keys().byte_17(),
+        port.keys().byte_18(),
+        port.keys().byte_96(),
+    ];
+    let moved = |byte: u8, from: u8, to: u8| if byte & from == 0 { 0 } else { to };
+    let right = |byte: u8, bit: u8| moved(byte, bit, held::RIGHT);
+    let left = |byte: u8, bit: u8| moved(byte, bit, held::LEFT);
+    [
+        prefix_due(port.prefix()),
+        port.alt_sum(),
+        right(byte_17, flags::RIGHT_SHIFT) | left(byte_17, flags::LEFT_SHIFT),
+        right(byte_96, flags::RIGHT_CTRL) | left(byte_18, flags::LEFT_CTRL),
+        right(byte_96, flags::RIGHT_ALT) | left(byte_18, flags::LEFT_ALT),
+        moved(byte_18, flags::SCROLL, held::SCROLL)
+            | moved(byte_18, flags::NUM, held::NUM)
+            | moved(byte_18, flags::CAPS, held::CAPS),
+        moved(byte_18, flags::INSERT, 1),
+        moved(byte_18, flags::SYSREQ_HELD, 1),
+    ]
+}
+
+/// The same service but for the keyboard's prefix and the codes that come, which are those of these
+/// numbers.
 pub fn with_prefix_and_codes(service: &Service, prefix: u8, codes: u8) -> Service {
     let mut other = service.clone();
     other.change(CodeSet::One);

@@ -1,17 +1,17 @@
 //! Every input through the library shows what the reference shows: answer, word, flag bytes, bytes
-//! sent, refusal and the 44 bytes of its report, and leaves its prefix, its code set and its mark. Run
+//! sent, refusal and the 44 bytes of its report, and leaves its ports, its code set and its mark. Run
 //! alone or with its report, an event leaves the same image, whether it came by itself or as a frame; a
 //! refused frame leaves the image it found. The first four bytes of the image are the flag bytes.
 //!
 //! The lists are random, of every flavour, from either code set and from every setting of the locks, with
-//! frames and changes of set among their events, and then those of the reference's generator, which try
-//! each rule. Where the two sides differ, the list is cut down to inputs that are all needed to see it.
+//! bytes of the scanner, frames and changes of set among their events, and then those of the reference's
+//! generator, which try each rule. Where the two sides differ, the list is cut down to inputs that are all
+//! needed to see it.
 
-use differential::place::PREFIX_AND_CODES;
-use differential::{prefix_and_codes_due, report_due, Image, Pair, Reported};
+use differential::{ports_due, report_due, Image, Pair, Ports, Reported};
 use reference::generator::{packs, random_inputs, Flavour, Random, FLAVOURS};
 use reference::vectors::to_hex;
-use reference::{read_event, CodeSet, Input, Outcome, Service, CODE_SETS};
+use reference::{read_event, CodeSet, Event, Input, Outcome, Service, CODE_SETS};
 use std::{fmt, thread};
 
 /// Random lists of each flavour from each setting of the locks, on either set in turn: how many, and
@@ -24,8 +24,7 @@ const LEAST_INPUTS: usize = 2_000_000;
 struct Seen {
     outcome: Outcome,
     flags: [u8; 4],
-    /// The byte for the prefix, and for the code set and its mark.
-    prefix_and_codes: u8,
+    ports: Ports,
     reported: Option<Reported>,
 }
 
@@ -33,8 +32,8 @@ impl fmt::Display for Seen {
     fn fmt(&self, formatter: &mut fmt::Formatter) -> fmt::Result {
         write!(
             formatter,
-            "{:X?}, then flags {:X?}, prefix and codes {:02X}; ",
-            self.outcome, self.flags, self.prefix_and_codes
+            "{:X?}, then flags {:X?}, {:X?}; ",
+            self.outcome, self.flags, self.ports
         )?;
         match &self.reported {
             None => write!(formatter, "no report"),
@@ -51,7 +50,7 @@ fn seen_of_reference(service: &mut Service, input: &Input) -> Seen {
     Seen {
         outcome,
         flags: service.flag_bytes(),
-        prefix_and_codes: prefix_and_codes_due(service),
+        ports: ports_due(service),
         reported: report_due(input, &outcome),
     }
 }
@@ -70,7 +69,7 @@ fn seen_of_library(image: &mut Image, input: &Input) -> Result<Seen, String> {
     Ok(Seen {
         outcome,
         flags: image.flag_bytes(),
-        prefix_and_codes: image.bytes[PREFIX_AND_CODES],
+        ports: image.ports(),
         reported,
     })
 }
@@ -131,10 +130,15 @@ fn assert_agrees(start: Start, inputs: &[Input]) {
     );
 }
 
-/// Compares random lists of one flavour, and counts their inputs.
-fn compare_random_lists(flavour: Flavour) -> usize {
+fn is_scan(input: &&Input) -> bool {
+    matches!(input, Input::Event(Event::Scan(_)))
+}
+
+/// Compares random lists of one flavour. Counts their inputs, and those of them that are bytes of the
+/// scanner.
+fn compare_random_lists(flavour: Flavour) -> (usize, usize) {
     let mut random = Random::new(0x0D1F + flavour as u64);
-    let mut count = 0;
+    let (mut count, mut scans) = (0, 0);
     for locks in 0..16 {
         for (lists, shortest, longest) in LISTS {
             for list in 0..lists {
@@ -143,24 +147,27 @@ fn compare_random_lists(flavour: Flavour) -> usize {
                 let inputs = random_inputs(&mut random, flavour, set, length);
                 assert_agrees((set, locks), &inputs);
                 count += inputs.len();
+                scans += inputs.iter().filter(is_scan).count();
             }
         }
     }
-    count
+    (count, scans)
 }
 
 #[test]
 fn random_lists_agree() {
-    let count: usize = thread::scope(|scope| {
+    let counts = thread::scope(|scope| {
         let start = |flavour| scope.spawn(move || compare_random_lists(flavour));
-        let threads = FLAVOURS.map(start);
-        threads
-            .into_iter()
-            .map(|thread| thread.join().unwrap())
-            .sum()
+        FLAVOURS.map(start).map(|thread| thread.join().unwrap())
     });
-    println!("{count} events, frames and changes of set of random lists agree");
+    let count: usize = counts.iter().map(|(inputs, _)| inputs).sum();
+    let scans: usize = counts.iter().map(|(_, scans)| scans).sum();
+    println!(
+        "{count} events, frames and changes of set of random lists agree, {scans} bytes of the scanner \
+         among them"
+    );
     assert!(count >= LEAST_INPUTS);
+    assert!(scans > count / 20, "the scanner types in many places");
 }
 
 /// The events of a pack, up to its end or refusal.

@@ -1,10 +1,12 @@
-//! Any 64 bytes are a service: no image makes a call fail, or answer otherwise a second time. What a
+//! Any 72 bytes are a service: no image makes a call fail, or answer otherwise a second time. What a
 //! call leaves is in the one form that the library writes, with every number in its range, and shows
 //! the same as what was lent; its first four bytes are the flag bytes that the call showed. Bits that
 //! the header says are not read change nothing. A refused call or frame leaves every bit as it was lent.
 
 use differential::place::*;
-use differential::{codes, flag, prefix, prefix_and_codes, report_due, with_prefix_and_codes};
+use differential::{
+    codes, flag, held, prefix, prefix_and_codes, report_due, with_prefix_and_codes,
+};
 use differential::{Image, Pair, IMAGE_LENGTH};
 use reference::generator::{in_turn, random_inputs, Random, FLAVOURS};
 use reference::{CodeSet, Event, Input, CODE_SETS};
@@ -14,14 +16,16 @@ const EVENTS: usize = 10;
 /// Services that have every number put at the place of prefix and codes.
 const SERVICES: usize = 320;
 
-/// The most that numbers of one byte are read as; words and the Alt sum may be anything.
-const MOST: [(usize, u8); 6] = [
+/// The most that numbers of one byte are read as; words and the Alt sums may be anything.
+const MOST: [(usize, u8); 8] = [
     (RATE_KNOWN, 1),
     (HANDLED_KNOWN, 1),
     (KIND, 1),
     (OPERAND, 1),
     (SENDS, 3),
     (SENT, 6),
+    (SCANNER_INSERT, 1),
+    (SCANNER_SYSREQ, 1),
 ];
 /// The most that the number of queued words is read as.
 const MOST_COUNT: u64 = 15;
@@ -111,6 +115,8 @@ fn unread(bytes: &[u8; IMAGE_LENGTH]) -> [u8; IMAGE_LENGTH] {
         1 | 2 => bits[VALUE] = [0x80, 0xF8][usize::from(bytes[KIND] == 0)],
         _ => bits[KIND..=SENT].fill(0xFF),
     }
+    bits[SCANNER_SHIFT..=SCANNER_ALT].fill(!(held::RIGHT | held::LEFT));
+    bits[SCANNER_LOCKS] = !(held::SCROLL | held::NUM | held::CAPS);
     bits
 }
 
@@ -158,6 +164,7 @@ fn meant(image: &Image) -> Image {
     let prefix = in_range(image.prefix(), LARGEST_PREFIX);
     let codes = in_range(image.codes(), LARGEST_CODES);
     bytes[PREFIX_AND_CODES] = prefix_and_codes(prefix, codes);
+    bytes[SCANNER_PREFIX] = in_range(bytes[SCANNER_PREFIX], LARGEST_PREFIX);
     bytes[PHASE] = in_range(bytes[PHASE], LARGEST_PHASE);
     let head = in_range(number_at(bytes, HEAD), LARGEST_HEAD);
     put_number(bytes, HEAD, head);
@@ -262,11 +269,7 @@ fn any_number_stands_for_a_prefix_and_codes() {
     let mut random = Random::new(0x5E6);
     for service in 0..SERVICES {
         let (flavour, set, locks) = in_turn(service);
-        let mut used = Pair::new_on(set, locks);
-        let length = random.below(60);
-        for input in random_inputs(&mut random, flavour, set, length) {
-            used.input(&input);
-        }
+        let used = Pair::used(&mut random, flavour, set, locks);
         for number in 0..=255 {
             let mut pair = used.clone();
             pair.image.bytes[PREFIX_AND_CODES] = number;

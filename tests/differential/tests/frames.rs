@@ -4,7 +4,7 @@
 
 use differential::{frame_of, Image, Pair};
 use reference::generator::random_lists;
-use reference::Event::{self, Key, Poll};
+use reference::Event::{self, Key, Poll, Scan};
 use reference::{read_frame, write_frame, CodeSet, Input};
 
 const LISTS: usize = 8_000;
@@ -18,7 +18,7 @@ const TRANSLATIONS: [&[Input]; 3] = [
 ];
 
 /// What brings a new service into use, each another part of it.
-const USES: [&[Event]; 11] = [
+const USES: [&[Event]; 13] = [
     &[],
     // A command runs, which has sent one byte, and three.
     &[Poll],
@@ -36,6 +36,9 @@ const USES: [&[Event]; 11] = [
     &[Key(0x2A), Key(0x36), Key(0x1D), Key(0xE0), Key(0x1D)],
     // Both Alt keys are down, and a sum is typed.
     &[Key(0x38), Key(0xE0), Key(0x38), Key(0x4F)],
+    // The scanner has a prefix open that the keyboard has not, and keys down; frames go past it.
+    &[Scan(0x1D), Scan(0x38), Scan(0x4F), Scan(0xE0)],
+    &[Key(0xE0), Scan(0x2A), Scan(0xE1), Scan(0x1D)],
 ];
 
 /// From a copy of the service: the frame of a byte does what the byte does, any other number nothing.

@@ -1,17 +1,20 @@
 //! Every number of a service stands where the header says, and every flag in its bit: events that
 //! change few of them change the bytes at their places and no others. A flag is read from the bit
-//! that it is written to, and the other bits of the flag bytes are not read.
+//! that it is written to, and the other bits of the flag bytes are not read. The same holds for the
+//! numbers of the scanner's port, of which the flag bytes show nothing.
 
 use differential::codes::{SET_1, SET_2, SET_2_MARKED};
 use differential::flag::*;
+use differential::held::{CAPS, LEFT, NUM, RIGHT, SCROLL};
 use differential::place::*;
 use differential::prefix::{E0, E1, E1_1D, E1_9D, NONE};
-use differential::{prefix_and_codes, Image, IMAGE_LENGTH};
-use reference::Event::{self, Call, Empty, Key, Poll, Restart};
+use differential::{prefix_and_codes, Image, IMAGE_LENGTH, SCANNER_LENGTH};
+use reference::Event::{self, Call, Empty, Key, Poll, Restart, Scan};
 use reference::{CodeSet, CODE_SETS};
 
-/// The bits of the flag bytes that have a meaning.
+/// The bits of the flag bytes that have a meaning, and those of the scanner's numbers. A sum may have any.
 const MEANT: [u8; 4] = [0xFF, 0xFF, 0x0F, 0xF7];
+const MEANT_AT_THE_SCANNER: [u8; SCANNER_LENGTH] = [0x07, 0xFF, 0x03, 0x03, 0x03, 0x07, 0x01, 0x01];
 
 /// Events on a new service with no lock on, and the numbers and flags that are not 0 after them.
 type Change = (Vec<Event>, Vec<(usize, u8)>);
@@ -28,6 +31,10 @@ fn codes(number: u8) -> (usize, u8) {
 
 fn keys(bytes: &[u8]) -> Vec<Event> {
     bytes.iter().map(|&byte| Key(byte)).collect()
+}
+
+fn scans(bytes: &[u8]) -> Vec<Event> {
+    bytes.iter().map(|&byte| Scan(byte)).collect()
 }
 
 /// Each reply after a poll.
@@ -70,6 +77,61 @@ fn changes_by_keys() -> Vec<Change> {
         (keys(&[0xE1, 0x1D]), vec![prefix(E1_1D), E1_OPEN]),
         (keys(&[0xE1, 0x9D]), vec![prefix(E1_9D), E1_OPEN]),
         (keys(&[0x38, 0x4B]), vec![LEFT_ALT, ALT, (ALT_SUM, 4)]),
+    ]
+}
+
+/// Changes of the scanner's port, and the pause that it sets.
+fn changes_by_scans() -> Vec<Change> {
+    vec![
+        (scans(&[0xE0]), vec![(SCANNER_PREFIX, E0)]),
+        (scans(&[0xE1]), vec![(SCANNER_PREFIX, E1)]),
+        (scans(&[0xE1, 0x1D]), vec![(SCANNER_PREFIX, E1_1D)]),
+        (scans(&[0xE1, 0x9D]), vec![(SCANNER_PREFIX, E1_9D)]),
+        (scans(&[0xE1, 0x1D, 0x45]), vec![PAUSED]),
+        (scans(&[0x36]), vec![(SCANNER_SHIFT, RIGHT)]),
+        (scans(&[0x2A]), vec![(SCANNER_SHIFT, LEFT)]),
+        (scans(&[0xE0, 0x1D]), vec![(SCANNER_CTRL, RIGHT)]),
+        (scans(&[0x1D]), vec![(SCANNER_CTRL, LEFT)]),
+        (scans(&[0xE0, 0x38]), vec![(SCANNER_ALT, RIGHT)]),
+        (scans(&[0x38]), vec![(SCANNER_ALT, LEFT)]),
+        (
+            scans(&[0x38, 0x50, 0x4C, 0x4C]),
+            vec![(SCANNER_ALT, LEFT), (SCANNER_SUM, 255)],
+        ),
+        (scans(&[0x54]), vec![(SCANNER_SYSREQ, 1)]),
+    ]
+}
+
+/// Changes of the locks by the scanner, which holds their keys by itself.
+fn changes_by_scanned_locks() -> Vec<Change> {
+    let and_empty = |bytes: &[u8]| [scans(bytes), vec![Empty]].concat();
+    let (held, insert) = (SCANNER_LOCKS, (SCANNER_INSERT, 1));
+    vec![
+        (scans(&[0x46]), vec![SCROLL_LOCK, (held, SCROLL)]),
+        (scans(&[0x46, 0xC6]), vec![SCROLL_LOCK]),
+        (scans(&[0x46, 0xC6, 0x46]), vec![(held, SCROLL)]),
+        (scans(&[0x45]), vec![NUM_LOCK, (held, NUM)]),
+        (scans(&[0x45, 0xC5]), vec![NUM_LOCK]),
+        (scans(&[0x45, 0xC5, 0x45]), vec![(held, NUM)]),
+        (scans(&[0x3A]), vec![CAPS_LOCK, (held, CAPS)]),
+        (scans(&[0x3A, 0xBA]), vec![CAPS_LOCK]),
+        (scans(&[0x3A, 0xBA, 0x3A]), vec![(held, CAPS)]),
+        (and_empty(&[0x52]), vec![INSERT, insert]),
+        (and_empty(&[0x52, 0xD2]), vec![INSERT]),
+        (and_empty(&[0x52, 0xD2, 0x52]), vec![insert]),
+    ]
+}
+
+/// The same key at both ports, which each keeps by itself.
+fn changes_at_both() -> Vec<Change> {
+    let at_both = |byte: u8| vec![Key(byte), Scan(byte)];
+    vec![
+        (at_both(0x2A), vec![LEFT_SHIFT, (SCANNER_SHIFT, LEFT)]),
+        (at_both(0x3A), vec![CAPS_HELD, (SCANNER_LOCKS, CAPS)]),
+        (
+            at_both(0xE1),
+            vec![prefix(E1), E1_OPEN, (SCANNER_PREFIX, E1)],
+        ),
     ]
 }
 
@@ -158,19 +220,32 @@ fn standing(bytes: &[u8]) -> Vec<(usize, u8)> {
 
 #[test]
 fn each_number_stands_at_its_place() {
-    let mut seen = [0; 4];
-    for (events, expected) in [changes_by_keys(), changes_by_other_events()].concat() {
+    let mut seen = [0; IMAGE_LENGTH];
+    let changes = [
+        changes_by_keys(),
+        changes_by_scans(),
+        changes_by_scanned_locks(),
+        changes_at_both(),
+        changes_by_other_events(),
+    ];
+    for (events, expected) in changes.concat() {
         let mut image = Image::new(0).unwrap();
         for event in &events {
             image.event(event);
         }
         let expected = standing(&bytes_with(&expected));
         assert_eq!(standing(&image.bytes), expected, "after {events:?}");
-        for (seen, byte) in seen.iter_mut().zip(image.first_bytes()) {
+        for (seen, byte) in seen.iter_mut().zip(image.bytes) {
             *seen |= byte;
         }
     }
-    assert_eq!(seen, MEANT, "each flag was on after some events");
+    let seen = Image { bytes: seen };
+    assert_eq!(
+        seen.first_bytes(),
+        MEANT,
+        "each flag was on after some events"
+    );
+    assert_eq!(seen.scanner(), MEANT_AT_THE_SCANNER);
 }
 
 /// Made on a set, or changed to it, whether a mark is open or not.
@@ -245,6 +320,27 @@ fn each_flag_is_read_from_its_bit() {
             );
             // A status call writes what was read.
             image.call(0x02, 0, 0);
+            assert_eq!(standing(&image.bytes), standing(&expected));
+        }
+    }
+}
+
+/// One bit of the scanner's numbers among zeros, likewise; no flag byte shows it.
+#[test]
+fn each_number_of_the_scanner_is_read_from_its_place() {
+    for (number, meant) in MEANT_AT_THE_SCANNER.into_iter().enumerate() {
+        let place = SCANNER_PREFIX + number;
+        for bit in (0..8).map(|number| 1 << number) {
+            let mut image = Image::new(0).unwrap();
+            image.bytes[place] = bit;
+            assert_eq!(image.flag_bytes(), [0; 4], "bit {bit:02X} at {place}");
+            image.call(0x02, 0, 0);
+            let expected = match place {
+                // Any number but 0 is held.
+                SCANNER_INSERT | SCANNER_SYSREQ => 1,
+                _ => bit & meant,
+            };
+            let expected = bytes_with(&[(place, expected)]);
             assert_eq!(standing(&image.bytes), standing(&expected));
         }
     }

@@ -2,7 +2,7 @@
 //! the report of a call refused by 2 to 5, which is told like any other event. A call that is run
 //! changes the image and the first 44 bytes of the buffer, and nothing before, between or behind.
 
-use differential::{Image, Pair, Tagged, IMAGE_LENGTH};
+use differential::{Image, Pair, Tagged, IMAGE_LENGTH, SCANNER_LENGTH};
 use reference::frame::{PARITY_BIT, STOP_BIT};
 use reference::generator::{random_events, random_inputs, random_lists, Random, FLAVOURS};
 use reference::{report, write_frame, CodeSet, Event, Input, Outcome, CODE_SETS, REPORT_LENGTH};
@@ -14,7 +14,9 @@ const SERVICES: usize = 256;
 const MARGIN: usize = 64;
 /// An image stands at a multiple of this.
 const ALIGNMENT: usize = 8;
-const TAGS: [u8; 6] = *b"KCPTER";
+/// A processor reads so many bytes at a time.
+const CACHE_LINE: usize = 64;
+const TAGS: [u8; 7] = *b"KCPTERS";
 /// The functions of int 16h that are not refused by 2.
 const FUNCTIONS: [u8; 8] = [0x00, 0x10, 0x01, 0x11, 0x02, 0x12, 0x03, 0x05];
 
@@ -25,7 +27,10 @@ fn services_in_use() -> Vec<Pair> {
         inputs.iter().for_each(|input| pair.input(input));
         pair
     };
-    random_lists(9, SERVICES, 149).map(in_use).collect()
+    let services: Vec<Pair> = random_lists(9, SERVICES, 149).map(in_use).collect();
+    let is_used = |number: usize| services.iter().any(|pair| pair.image.scanner()[number] > 0);
+    assert!((0..SCANNER_LENGTH).all(is_used), "scanners were used");
+    services
 }
 
 /// Bytes of which no two neighbours are alike, so that a byte moved is seen too.
@@ -205,6 +210,55 @@ fn refusal_13_keeps_every_byte() {
     }
 }
 
+/// The refusal that an answer tells; 0 for none.
+fn refusal_of(outcome: Outcome) -> u8 {
+    outcome.ans.saturating_sub(0x80)
+}
+
+/// A call that gives the refusal it met.
+type Refused = fn(&mut Image) -> u8;
+
+/// Calls, each with the refusal it meets where the queue is full.
+const REFUSED: [(u8, Refused); 12] = [
+    (1, |image| image.make_on(CodeSet::One, 16)),
+    (1, |image| image.make_on(CodeSet::Two, 255)),
+    (2, |image| refusal_of(image.call(0x53, 0, 0))),
+    (3, |image| refusal_of(image.call(0x03, 4, 32))),
+    (4, |image| refusal_of(image.call(0x03, 3, 32))),
+    (5, |image| refusal_of(image.call(0x05, 0x1E, 0x61))),
+    (5, |image| {
+        let event = Event::Call(0x05, 0x1E, 0x61);
+        image.report(&event, &mut [0; REPORT_LENGTH])
+    }),
+    (6, |image| {
+        let (tag, operands) = (b's', [0x1E; 3]);
+        refusal_of(image.event(Tagged { tag, operands }))
+    }),
+    (9, |image| {
+        image.report(&Event::Scan(0x1E), &mut [0; REPORT_LENGTH - 1])
+    }),
+    (11, |image| refusal_of(image.frame(1))),
+    (12, |image| refusal_of(image.frame(0))),
+    (13, |image| refusal_of(image.frame(1 << PARITY_BIT))),
+];
+
+/// Numbers that no call would leave are kept too, at each of the 72 bytes.
+#[test]
+fn refused_calls_keep_any_bytes() {
+    let mut random = Random::new(47);
+    for _ in 0..SERVICES {
+        let mut bytes = [0; IMAGE_LENGTH];
+        // A count above 15 is read as 15.
+        bytes.fill_with(|| random.between(16, 255) as u8);
+        let lent = Image { bytes };
+        for (refusal, call) in REFUSED {
+            let mut image = lent.clone();
+            assert_eq!(call(&mut image), refusal);
+            assert_eq!(image, lent, "refused by {refusal}");
+        }
+    }
+}
+
 #[test]
 fn long_buffer_keeps_its_tail() {
     let mut random = Random::new(45);
@@ -229,9 +283,9 @@ fn unused_operands_are_not_read() {
             let plain = Tagged::from(&event);
             let mut filled = plain;
             let used = match event {
-                Event::Key(_) => 1,
+                Event::Key(_) | Event::Scan(_) => 1,
                 Event::Call(..) => 3,
-                _ => 0,
+                Event::Poll | Event::TimeOut | Event::Empty | Event::Restart => 0,
             };
             filled.operands[used..].fill_with(|| random.byte());
             let (mut one, mut other) = (pair.image.clone(), pair.image.clone());
@@ -273,29 +327,32 @@ fn neighbours_of_the_image_are_kept() {
     }
 }
 
-/// An image and a gap behind it.
+/// An image and a gap behind it, so long that each image of a row begins at another place of its cache
+/// line than the one before.
 #[repr(C)]
 #[derive(Clone, Debug, PartialEq, Eq)]
 struct Spaced {
     image: Image,
-    gap: [u8; ALIGNMENT],
+    gap: [u8; GAP],
 }
+
+const GAP: usize = 2 * ALIGNMENT;
 
 /// Images in a row stand at addresses of every kind that the alignment allows. Each in turn is given a
 /// list; it shows what an image that stands alone shows, and the others and the gaps are kept.
 #[test]
 fn images_stand_at_any_multiple_of_eight() {
     let mut random = Random::new(81);
-    let gap: [u8; ALIGNMENT] = memory(ALIGNMENT).try_into().unwrap();
+    let gap: [u8; GAP] = memory(GAP).try_into().unwrap();
     let alone: Vec<Image> = services_in_use()
         .into_iter()
         .map(|pair| pair.image)
         .collect();
     let spaced = |image: Image| Spaced { image, gap };
     let mut row: Vec<Spaced> = alone.iter().cloned().map(spaced).collect();
-    let kind = |spaced: &Spaced| &spaced.image as *const Image as usize % IMAGE_LENGTH;
+    let kind = |spaced: &Spaced| &spaced.image as *const Image as usize % CACHE_LINE;
     let kinds: BTreeSet<usize> = row.iter().map(kind).collect();
-    assert!(kinds.into_iter().eq((0..IMAGE_LENGTH).step_by(ALIGNMENT)));
+    assert!(kinds.into_iter().eq((0..CACHE_LINE).step_by(ALIGNMENT)));
     for (place, mut expected) in alone.into_iter().enumerate() {
         let mut others = row.clone();
         let flavour = random.pick(&FLAVOURS);

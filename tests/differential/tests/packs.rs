@@ -37,7 +37,7 @@ fn assert_read(pack: &[u8], start: usize) {
 #[test]
 fn every_start_is_read() {
     let mut random = Random::new(0x9AC);
-    let tags = *b"KCPTERX";
+    let tags = *b"KCPTERSX";
     for _ in 0..RANDOM_PACKS {
         let length = random.below(40);
         let byte = |random: &mut Random| match random.below(3) {

@@ -1,15 +1,16 @@
 //! Set 2: from every state of prefix and mark, each pair of bytes shows what the reference shows; so does
 //! each change of set, which writes half a byte and leaves the prefix in its other half and all other
-//! bytes. A service is made on set 2 as on set 1, and resynchronised on the set it has.
+//! bytes. To the scanner's bytes it is all one. A service is made on set 2 as on set 1, and resynchronised
+//! on the set it has.
 
 use differential::place::{BYTE_17, PREFIX_AND_CODES};
 use differential::{codes, prefix, prefix_and_codes, Image, Pair, IMAGE_LENGTH, PREFIXES};
-use reference::generator::all_up_run;
-use reference::Event::{self, Call, Empty, Key, Poll, Restart};
-use reference::{CodeSet, Input, Outcome, CODE_SETS};
+use reference::generator::all_up_events;
+use reference::Event::{self, Call, Empty, Key, Poll, Restart, Scan};
+use reference::{CodeSet, Input, Outcome, CODE_SETS, DEVICES};
 
 /// What brings a new service on set 1 into use, each another part of it.
-const USES: [&[Event]; 12] = [
+const USES: [&[Event]; 14] = [
     &[],
     // A command runs: it has sent one byte, and two, the second not answered.
     &[Poll],
@@ -31,6 +32,17 @@ const USES: [&[Event]; 12] = [
     &[Key(0x1D), Key(0x38)],
     // Caps Lock, Scroll Lock, Ins and SysReq held.
     &[Key(0x3A), Key(0x46), Key(0x52), Key(0x54)],
+    // The scanner holds Shift, Num and Alt, has typed a sum, and has a prefix open.
+    &[
+        Scan(0x2A),
+        Scan(0x45),
+        Scan(0x38),
+        Scan(0x4F),
+        Scan(0xE1),
+        Scan(0x1D),
+    ],
+    // The scanner holds Ins and Ctrl.
+    &[Scan(0x52), Scan(0x1D), Scan(0xE0)],
 ];
 
 /// What leads from a service on set 1 to one on either set and to one behind a mark, with the number for
@@ -126,6 +138,7 @@ fn every_change_writes_half_a_byte() {
             assert_eq!(changed.image, with_codes(&pair.image, codes_of(set)));
             for byte in 0..=255 {
                 changed.clone().event(&Key(byte));
+                changed.clone().event(&Scan(byte));
             }
             // Once more, it changes nothing.
             let once = changed.image.clone();
@@ -142,6 +155,21 @@ fn a_mark_writes_half_a_byte() {
             let mut marked = pair.image.clone();
             assert_eq!(marked.key(0xF0), standing(&pair.image));
             assert_eq!(marked, with_codes(&pair.image, codes::SET_2_MARKED));
+        }
+    }
+}
+
+/// On set 2 and behind a mark a byte of the scanner does what it does on set 1, and leaves both.
+#[test]
+fn scanners_have_set_1() {
+    for pair in services() {
+        for byte in 0..=255 {
+            let mut scanned = pair.clone();
+            scanned.event(&Scan(byte));
+            let mut on_set_1 = with_codes(&pair.image, codes::SET_1);
+            assert_eq!(on_set_1.scan(byte), pair.image.clone().scan(byte));
+            assert_eq!(scanned.image, with_codes(&on_set_1, pair.image.codes()));
+            TELLING.iter().for_each(|&byte| scanned.event(&Key(byte)));
         }
     }
 }
@@ -164,15 +192,17 @@ fn made_on_set_2_every_byte_is_written_or_none() {
     }
 }
 
-/// The run, E and R event by event, against the reference and against the one call.
+/// The runs, E and R event by event, against the reference and against the one call.
 #[test]
 fn resynchronised_on_the_set_in_force() {
     for mut pair in services() {
         let set = pair.service.set();
         let mut at_once = pair.image.clone();
         let shown = at_once.resynchronise();
-        let run = all_up_run(set).iter().map(|&byte| Key(byte));
-        for event in run.chain([Empty]) {
+        let runs = DEVICES
+            .into_iter()
+            .flat_map(|device| all_up_events(device, set));
+        for event in runs.chain([Empty]) {
             pair.event(&event);
         }
         assert_eq!(pair.image.event(&Restart), shown);

@@ -1,4 +1,5 @@
-//! Modifier, lock and held bits, kept where the flag bytes 17, 18 and 96 show them.
+//! Modifier and held bits of one port's keys, kept where the flag bytes 17, 18 and 96 show those of
+//! the keyboard.
 
 /// Bits of byte 17. Ctrl and Alt are not stored there: they follow from the left and right keys.
 pub const RIGHT_SHIFT: u8 = 0x01;
@@ -20,44 +21,53 @@ pub const PAUSED: u8 = 0x08;
 pub const RIGHT_CTRL: u8 = 0x04;
 pub const RIGHT_ALT: u8 = 0x08;
 
-/// State of the keys as bits.
-#[derive(Clone, Debug, PartialEq, Eq)]
-pub struct Flags {
-    /// Shift keys and locks, as in byte 17.
+/// Which keys of one port are down, as far as anything depends on it.
+#[derive(Clone, Copy, Debug, PartialEq, Eq)]
+pub struct Keys {
+    /// Shift keys, as in byte 17.
     shifts: u8,
-    /// Byte 18 whole.
+    /// Left Ctrl and left Alt, SysReq, and the keys of the locks, as in byte 18.
     held: u8,
     /// Right Ctrl and right Alt, as in byte 96.
     right: u8,
 }
 
-impl Flags {
-    /// All keys up, with the four lock bits in the low half of `locks`.
-    pub const fn new(locks: u8) -> Flags {
-        Flags {
-            shifts: locks << 4,
+impl Keys {
+    pub const fn all_up() -> Keys {
+        Keys {
+            shifts: 0,
             held: 0,
             right: 0,
         }
     }
 
+    /// All of byte 17 but the locks.
     pub fn byte_17(&self) -> u8 {
         let ctrl = if self.ctrl() { CTRL } else { 0 };
         let alt = if self.alt() { ALT } else { 0 };
         self.shifts | ctrl | alt
     }
 
+    /// All of byte 18 but the pause.
     pub fn byte_18(&self) -> u8 {
         self.held
     }
 
-    /// Right Ctrl and right Alt in their places of byte 96.
-    pub fn right_keys(&self) -> u8 {
+    /// All of byte 96 but the prefix.
+    pub fn byte_96(&self) -> u8 {
         self.right
     }
 
+    /// High byte of the extended status.
+    pub fn extended_status(&self) -> u8 {
+        let left = self.held & (LEFT_CTRL | LEFT_ALT);
+        let locks_held = self.held & (SCROLL | NUM | CAPS);
+        let sysreq = (self.held & SYSREQ_HELD) << 5;
+        left | self.right | locks_held | sysreq
+    }
+
     pub fn shift(&self) -> bool {
-        self.shifts & (RIGHT_SHIFT | LEFT_SHIFT) != 0
+        self.shifts != 0
     }
 
     pub fn ctrl(&self) -> bool {
@@ -68,27 +78,9 @@ impl Flags {
         self.held & LEFT_ALT != 0 || self.right & RIGHT_ALT != 0
     }
 
-    pub fn paused(&self) -> bool {
-        self.held & PAUSED != 0
-    }
-
-    pub fn set_paused(&mut self, paused: bool) {
-        assign(&mut self.held, PAUSED, paused);
-    }
-
-    /// Whether any of the given lock bits is on; no bit, no lock.
-    pub fn locked(&self, locks: u8) -> bool {
-        self.shifts & locks != 0
-    }
-
-    /// Scroll, Num and Caps as the keyboard's lamps take them.
-    pub fn lamps(&self) -> u8 {
-        (self.shifts >> 4) & 0x07
-    }
-
     /// Sets or clears the key that `code` names by its make, E0 codes as E0xx.
     /// False if the key has no bit of its own.
-    pub fn assign_key(&mut self, code: u16, down: bool) -> bool {
+    pub fn assign(&mut self, code: u16, down: bool) -> bool {
         let (byte, bit) = match code {
             0x2A => (&mut self.shifts, LEFT_SHIFT),
             0x36 => (&mut self.shifts, RIGHT_SHIFT),
@@ -99,35 +91,22 @@ impl Flags {
             0x54 => (&mut self.held, SYSREQ_HELD),
             _ => return false,
         };
-        assign(byte, bit, down);
+        if down {
+            *byte |= bit;
+        } else {
+            *byte &= !bit;
+        }
         true
     }
 
-    /// A make of a lock key: it toggles once until the key is released.
-    pub fn press_lock(&mut self, lock: u8) {
-        if self.held & lock == 0 {
-            self.shifts ^= lock;
-            self.held |= lock;
-        }
+    /// Holds the key of a lock; false if it was held already, as when its make repeats.
+    pub fn hold(&mut self, lock: u8) -> bool {
+        let was_up = self.held & lock == 0;
+        self.held |= lock;
+        was_up
     }
 
-    pub fn release_lock(&mut self, lock: u8) {
+    pub fn let_go(&mut self, lock: u8) {
         self.held &= !lock;
-    }
-
-    /// High byte of the extended status.
-    pub fn extended_status(&self) -> u8 {
-        let left = self.held & (LEFT_CTRL | LEFT_ALT);
-        let locks_held = self.held & (SCROLL | NUM | CAPS);
-        let sysreq = (self.held & SYSREQ_HELD) << 5;
-        left | self.right | locks_held | sysreq
-    }
-}
-
-fn assign(byte: &mut u8, bit: u8, on: bool) {
-    if on {
-        *byte |= bit;
-    } else {
-        *byte &= !bit;
     }
 }

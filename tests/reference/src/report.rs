@@ -64,14 +64,18 @@ mod tests {
             flags: [0x34, 0x56, 0x78, 0x9A],
             sent: 6,
         };
-        let text = report(&Event::Poll, &outcome);
-        assert_eq!(&text, b"ev=P\nans=0C\nword=12AB\nflags=3456789A\nsent=6\n");
+        for (event, tag) in [(Event::Poll, 'P'), (Event::Scan(0x1E), 'S')] {
+            let text = report(&event, &outcome);
+            let expected = format!("ev={tag}\nans=0C\nword=12AB\nflags=3456789A\nsent=6\n");
+            assert_eq!(text, expected.as_bytes());
+        }
     }
 
     #[test]
     fn ends_where_the_pack_is_refused() {
         assert_eq!(trace(b""), b"end=0000\nrefused=0\n");
         assert_eq!(trace(b"x"), b"end=0000\nrefused=6\n");
+        assert_eq!(trace(b"S"), b"end=0000\nrefused=7\n");
         assert!(trace(b"PC\x05\x00").ends_with(b"sent=1\nend=0001\nrefused=7\n"));
         assert!(trace(&[b'P'; 32_768]).ends_with(b"end=8000\nrefused=0\n"));
         assert_eq!(trace(&[b'P'; 32_769]), b"end=0000\nrefused=8\n");

@@ -1,15 +1,14 @@
-//! The service: keys, queue and line brought together, one event at a time.
+//! The service: two ports, queue and line brought together, one event at a time.
 
 use crate::answer::{self, Answer};
-use crate::flags::{self, Flags};
 use crate::frame::read_frame;
 use crate::input::Input;
 use crate::line::Line;
-use crate::pack::Event;
-use crate::prefix::{Meaning, Prefix};
-use crate::queue::{as_an_old_program_sees, Queue};
+use crate::pack::{Device, Event};
+use crate::port::Port;
+use crate::queue::as_an_old_program_sees;
 use crate::report::{report, REPORT_LENGTH};
-use crate::rows::{self, Row};
+use crate::shared::Shared;
 use crate::translation::{CodeSet, Translation};
 
 /// What is seen of an event.
@@ -25,12 +24,11 @@ pub struct Outcome {
 
 #[derive(Clone, Debug, PartialEq, Eq)]
 pub struct Service {
+    /// Of the keyboard alone: a scanner has set 1.
     translation: Translation,
-    flags: Flags,
-    prefix: Prefix,
-    /// The number typed on the keypad under Alt.
-    alt_sum: u8,
-    queue: Queue,
+    keyboard: Port,
+    scanner: Port,
+    shared: Shared,
     line: Line,
 }
 
@@ -47,7 +45,7 @@ impl Service {
         }
         Ok(Service {
             translation: Translation::new(set),
-            flags: Flags::new(locks),
+            shared: Shared::new(locks),
             ..Service::unlocked()
         })
     }
@@ -56,10 +54,9 @@ impl Service {
     pub const fn unlocked() -> Service {
         Service {
             translation: Translation::new(CodeSet::One),
-            flags: Flags::new(0),
-            prefix: Prefix::Closed,
-            alt_sum: 0,
-            queue: Queue::new(),
+            keyboard: Port::new(),
+            scanner: Port::new(),
+            shared: Shared::new(0),
             line: Line::new(),
         }
     }
@@ -70,8 +67,9 @@ impl Service {
         let sent_before = self.line.sent();
         let answer = match *event {
             Event::Key(byte) => self.keyboard_byte(byte),
+            Event::Scan(byte) => self.scanner_byte(byte),
             Event::Call(function, a, b) => self.call(function, a, b),
-            Event::Poll => self.line.poll(self.flags.lamps()),
+            Event::Poll => self.line.poll(self.shared.lamps()),
             Event::TimeOut => self.line.time_out(),
             Event::Empty => self.empty(),
             Event::Restart => self.restart(),
@@ -118,12 +116,13 @@ impl Service {
         Ok(outcome)
     }
 
-    /// Flag bytes 17, 18, 96 and 97.
+    /// Flag bytes 17, 18, 96 and 97. Of the two ports they show the keyboard's.
     pub fn flag_bytes(&self) -> [u8; 4] {
+        let keys = self.keyboard.keys();
         [
-            self.flags.byte_17(),
-            self.flags.byte_18(),
-            self.prefix.bits() | self.flags.right_keys(),
+            self.byte_17(),
+            keys.byte_18() | self.shared.byte_18(),
+            keys.byte_96() | self.keyboard.prefix().bits(),
             self.line.byte_97(),
         ]
     }
@@ -138,9 +137,24 @@ impl Service {
         self.translation
     }
 
-    /// The number typed so far under Alt; 0 whenever no Alt is down.
-    pub fn alt_sum(&self) -> u8 {
-        self.alt_sum
+    pub fn port(&self, device: Device) -> &Port {
+        match device {
+            Device::Keyboard => &self.keyboard,
+            Device::Scanner => &self.scanner,
+        }
+    }
+
+    /// The same service with another port of this device.
+    pub fn with_port(mut self, device: Device, port: Port) -> Service {
+        match device {
+            Device::Keyboard => self.keyboard = port,
+            Device::Scanner => self.scanner = port,
+        }
+        self
+    }
+
+    fn byte_17(&self) -> u8 {
+        self.keyboard.keys().byte_17() | self.shared.byte_17()
     }
 
     fn outcome(&self, answer: Answer, sent: u8) -> Outcome {
@@ -153,7 +167,7 @@ impl Service {
     }
 
     fn empty(&mut self) -> Answer {
-        self.queue.empty();
+        self.shared.queue.empty();
         Answer::plain(answer::DONE)
     }
 
@@ -165,148 +179,44 @@ impl Service {
     /// Every byte of the keyboard passes here, however it came. All further steps see set 1 alone.
     fn keyboard_byte(&mut self, byte: u8) -> Answer {
         match self.translation.read(byte) {
-            Some(byte) => self.key(byte),
+            Some(reply) if is_reply(reply) => self.line.reply(reply),
+            Some(byte) => self.keyboard.read(byte, &mut self.shared),
             None => Answer::plain(answer::NOTHING),
         }
     }
 
-    /// Steps 1 to 3: replies, overruns and prefixes.
-    fn key(&mut self, byte: u8) -> Answer {
-        match byte {
-            0xFA | 0xFE => return self.line.reply(byte),
-            0x00 | 0xFF => {
-                self.prefix = Prefix::Closed;
-                return Answer::plain(answer::OVERRUN);
-            }
-            _ => {}
+    /// The line leads to the keyboard, so a scanner has nothing to reply to.
+    fn scanner_byte(&mut self, byte: u8) -> Answer {
+        if is_reply(byte) {
+            return Answer::plain(answer::IGNORED);
         }
-        match self.prefix.read(byte) {
-            Meaning::Swallowed => {}
-            Meaning::Pause => self.flags.set_paused(true),
-            Meaning::Code(code) if code & 0x80 == 0 => return self.make(code),
-            Meaning::Code(code) => return self.release(code & !0x80),
-        }
-        Answer::plain(answer::NOTHING)
-    }
-
-    /// Step 4 for makes; a make with a row goes on. The Shifts after E0 have neither bit nor row.
-    fn make(&mut self, code: u16) -> Answer {
-        if self.flags.assign_key(code, true) {
-            return Answer::plain(answer::NOTHING);
-        }
-        if let Some(lock) = lock_of(code) {
-            self.flags.press_lock(lock);
-            return Answer::plain(answer::NOTHING);
-        }
-        match rows::row(code) {
-            Some(row) => self.press(code, row),
-            None => Answer::plain(answer::NOTHING),
-        }
-    }
-
-    /// Step 4 for breaks, named by their make.
-    fn release(&mut self, code: u16) -> Answer {
-        if self.flags.assign_key(code, false) {
-            let last_alt = matches!(code, 0x38 | 0xE038) && !self.flags.alt();
-            if last_alt && self.alt_sum > 0 {
-                return self.put_alt_sum();
-            }
-            return Answer::plain(answer::NOTHING);
-        }
-        let lock = match code {
-            0x52 | 0xE052 => Some(flags::INSERT),
-            _ => lock_of(code),
-        };
-        if let Some(lock) = lock {
-            self.flags.release_lock(lock);
-        }
-        Answer::plain(answer::NOTHING)
-    }
-
-    fn put_alt_sum(&mut self) -> Answer {
-        let word = u16::from(self.alt_sum);
-        self.alt_sum = 0;
-        self.put(word)
-    }
-
-    /// Steps 5 to 8 for a make with a row.
-    fn press(&mut self, code: u16, row: &Row) -> Answer {
-        let alt = self.flags.alt();
-        if matches!(code, 0x53 | 0xE053) && alt && self.flags.ctrl() {
-            return Answer::plain(answer::RESTART_ASKED);
-        }
-        if self.flags.paused() {
-            self.flags.set_paused(false);
-            return Answer::plain(answer::NOTHING);
-        }
-        if alt {
-            if let Some(digit) = keypad_digit(code) {
-                self.alt_sum = self.alt_sum.wrapping_mul(10).wrapping_add(digit);
-                return Answer::plain(answer::NOTHING);
-            }
-        }
-        self.alt_sum = 0;
-        if code == 0xE046 {
-            self.queue.empty();
-            self.queue.put(0);
-            return Answer::plain(answer::BREAK);
-        }
-        self.put_from(code, row)
-    }
-
-    /// Step 9, and the toggling of Insert.
-    fn put_from(&mut self, code: u16, row: &Row) -> Answer {
-        let Some(word) = row.words[self.column(row)] else {
-            return Answer::plain(answer::NOTHING);
-        };
-        if matches!(code, 0x52 | 0xE052) && matches!(word, 0x5200 | 0x52E0) {
-            self.flags.press_lock(flags::INSERT);
-        }
-        self.put(word)
-    }
-
-    fn column(&self, row: &Row) -> usize {
-        if self.flags.alt() {
-            rows::ALT
-        } else if self.flags.ctrl() {
-            rows::CTRL
-        } else if self.flags.shift() != self.flags.locked(row.lock) {
-            rows::SHIFT
-        } else {
-            rows::PLAIN
-        }
-    }
-
-    fn put(&mut self, word: u16) -> Answer {
-        let number = if self.queue.put(word) {
-            answer::WORD_PUT
-        } else {
-            answer::WORD_DROPPED
-        };
-        Answer::with_word(number, word)
+        self.scanner.read(byte, &mut self.shared)
     }
 
     /// The functions of int 16h. Old programs call 00 and 01, which know no enhanced words: those
     /// ahead of the next word are gone even where 01 only looks. The next word is converted as it is
     /// handed over, and in the queue it stays as it was put.
     fn call(&mut self, function: u8, a: u8, b: u8) -> Answer {
+        let queue = &mut self.shared.queue;
         if matches!(function, 0x00 | 0x01) {
-            self.queue.drop_enhanced();
+            queue.drop_enhanced();
         }
         match function {
-            0x00 => returned(self.queue.take().map(as_an_old_program_sees)),
-            0x01 => returned(self.queue.oldest().map(as_an_old_program_sees)),
-            0x10 => returned(self.queue.take()),
-            0x11 => returned(self.queue.oldest()),
-            0x02 => Answer::with_word(answer::STATUS, u16::from(self.flags.byte_17())),
-            0x12 => {
-                let bytes = [self.flags.extended_status(), self.flags.byte_17()];
-                Answer::with_word(answer::STATUS, u16::from_be_bytes(bytes))
-            }
+            0x00 => returned(queue.take().map(as_an_old_program_sees)),
+            0x01 => returned(queue.oldest().map(as_an_old_program_sees)),
+            0x10 => returned(queue.take()),
+            0x11 => returned(queue.oldest()),
+            0x02 => self.status(0x00),
+            0x12 => self.status(self.keyboard.keys().extended_status()),
             0x03 => self.set_rate(a, b),
             0x05 => self.store(u16::from_be_bytes([a, b])),
             _ => Answer::refused(answer::UNKNOWN_FUNCTION),
         }
+    }
+
+    fn status(&self, high: u8) -> Answer {
+        let word = u16::from_be_bytes([high, self.byte_17()]);
+        Answer::with_word(answer::STATUS, word)
     }
 
     fn set_rate(&mut self, delay: u8, rate: u8) -> Answer {
@@ -322,7 +232,7 @@ impl Service {
 
     /// A word from the program; unlike a key's word, it is refused by a full queue.
     fn store(&mut self, word: u16) -> Answer {
-        if self.queue.put(word) {
+        if self.shared.queue.put(word) {
             Answer::with_word(answer::DONE, word)
         } else {
             Answer::refused(answer::QUEUE_FULL)
@@ -330,30 +240,14 @@ impl Service {
     }
 }
 
+/// Step 1: the bytes by which a keyboard answers the line.
+fn is_reply(byte: u8) -> bool {
+    matches!(byte, 0xFA | 0xFE)
+}
+
 fn returned(word: Option<u16>) -> Answer {
     match word {
         Some(word) => Answer::with_word(answer::WORD_RETURNED, word),
         None => Answer::plain(answer::NO_WORD),
-    }
-}
-
-/// The lock that a make toggles by itself.
-fn lock_of(code: u16) -> Option<u8> {
-    match code {
-        0x3A => Some(flags::CAPS),
-        0x45 => Some(flags::NUM),
-        0x46 => Some(flags::SCROLL),
-        _ => None,
-    }
-}
-
-/// The digit on a keypad key.
-fn keypad_digit(code: u16) -> Option<u8> {
-    match code {
-        0x52 => Some(0),
-        0x4F..=0x51 => Some((code - 0x4F) as u8 + 1),
-        0x4B..=0x4D => Some((code - 0x4B) as u8 + 4),
-        0x47..=0x49 => Some((code - 0x47) as u8 + 7),
-        _ => None,
     }
 }

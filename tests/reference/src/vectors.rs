@@ -1,5 +1,9 @@
 //! Vectors whose outcomes are written down, to hold the reference to.
 
+mod scanner;
+
+pub use scanner::SCANNER;
+
 use crate::service::Outcome;
 
 /// A pack from locks 0 and what its last event must show; nothing if no event can be read.

@@ -2,7 +2,8 @@
 //! the bytes of the sound ones alone.
 
 use reference::generator::random_lists;
-use reference::{read_frame, write_frame, CodeSet, Event, Input, Outcome, Service};
+use reference::prefix::Prefix;
+use reference::{read_frame, write_frame, CodeSet, Device, Event, Input, Outcome, Service};
 
 const LISTS: usize = 2_000;
 const LONGEST: usize = 200;
@@ -99,6 +100,7 @@ fn spoiled_frames_leave_reply_awaited_and_prefix_open() {
     }
 }
 
+/// Before bytes of the scanner too, and behind them.
 #[test]
 fn refused_frames_can_be_taken_out() {
     for (set, locks, inputs) in lists() {
@@ -141,4 +143,21 @@ fn lists_hold_each_refusal_and_frames_of_prefixes_and_replies() {
     for reading in refusals.into_iter().chain(bytes) {
         assert!(lists_with(reading) > LISTS / 4, "{reading:X?}");
     }
+}
+
+/// Frames carry the keyboard's bytes alone; a scanner types between them.
+#[test]
+fn lists_hold_refused_frames_within_strings_of_the_scanner() {
+    let mut count = 0;
+    for (set, locks, inputs) in lists() {
+        let mut service = Service::on_set(set, locks).unwrap();
+        let met = inputs.iter().any(|input| {
+            service.input(input);
+            let prefix = service.port(Device::Scanner).prefix();
+            input.is_refused_frame() && prefix != Prefix::Closed
+        });
+        count += usize::from(met);
+    }
+    println!("{count} of {LISTS} lists");
+    assert!(count > LISTS / 4);
 }

@@ -1,9 +1,10 @@
 //! Grey keys: the words they put, what each function returns for them, and that a program which calls
 //! only 00 and 01 is shown what it was shown before these keys had words of their own.
 
-use reference::generator::{in_turn, random_events, random_lists, Random};
+use reference::generator::{in_turn, random_events, random_lists, with_scanner, Random};
+use reference::prefix::Prefix;
 use reference::queue::is_enhanced;
-use reference::{Event, Input, Outcome, Service};
+use reference::{Event, Input, Outcome, Port, Service};
 use std::collections::VecDeque;
 
 const LISTS: usize = 2_000;
@@ -43,9 +44,6 @@ const CTRL: u8 = 0x04;
 const ALT: u8 = 0x08;
 const NUM: u8 = 0x20;
 const INSERT: u8 = 0x80;
-
-/// The bit of flag byte 96 that shows E0 open.
-const E0_OPEN: u8 = 0x02;
 
 /// What 00 and 01 return for a stored word, by its two bytes.
 fn converted(word: u16) -> u16 {
@@ -90,19 +88,31 @@ impl Step {
         }
     }
 
-    /// The word that a byte of the keyboard puts, dropped or not.
+    /// The port that a byte came to, as it stood before.
+    fn port(&self) -> Option<&Port> {
+        let (device, _) = self.event.incoming()?;
+        Some(self.before.port(device))
+    }
+
+    /// Whether Ctrl is down on the port that a byte came to.
+    fn has_ctrl(&self) -> bool {
+        self.port().is_some_and(|port| port.keys().ctrl())
+    }
+
+    /// The word that a byte of either port puts, dropped or not.
     fn word_of_key(&self) -> Option<u16> {
-        let yields = matches!(self.event, Event::Key(_)) && matches!(self.shown.ans, 0x01 | 0x02);
+        let yields = self.port().is_some() && matches!(self.shown.ans, 0x01 | 0x02);
         yields.then_some(self.shown.word)
     }
 
     /// The same where grey keys have the words that they had before.
     fn word_before(&self) -> Option<u16> {
         let word = self.word_of_key()?;
-        let [byte_17, _, byte_96, _] = self.before.flag_bytes();
-        let column = usize::from(byte_17 & CTRL != 0);
-        let is_pressed = |code: u8| byte_96 & E0_OPEN != 0 && self.event == Event::Key(code);
+        let (_, byte) = self.event.incoming()?;
+        let is_extended = self.port()?.prefix() == Prefix::E0;
+        let is_pressed = |code: u8| is_extended && byte == code;
         let key = GREY_KEYS.iter().find(|(code, ..)| is_pressed(*code));
+        let column = usize::from(self.has_ctrl());
         Some(key.map_or(word, |(_, _, words)| words[column]))
     }
 
@@ -114,6 +124,15 @@ impl Step {
         }
         let shown = service.event(&Event::Call(0x11, 0, 0));
         (shown.ans == 0x08).then_some(shown.word)
+    }
+
+    /// Whether Ins is held on the port that a byte came to, before it and after it.
+    fn holds_insert(&self) -> Option<(bool, bool)> {
+        let (device, _) = self.event.incoming()?;
+        let mut after = self.before.clone();
+        after.event(&self.event);
+        let holds = |service: &Service| service.port(device).keys().byte_18() & INSERT != 0;
+        Some((holds(&self.before), holds(&after)))
     }
 
     fn toggles_insert(&self) -> bool {
@@ -145,6 +164,7 @@ fn follow_lists<Follower: Default>(
     let followed = |list| {
         let (flavour, _, locks) = in_turn(list);
         let events = random_events(&mut random, flavour, LONGEST);
+        let events = with_scanner(&mut random, &events);
         let events = events.into_iter().filter(wanted);
         let inputs: Vec<Input> = events.map(Input::Event).collect();
         let mut follower = Follower::default();
@@ -166,9 +186,9 @@ impl Waiting {
     /// Follows an event that reads nothing; a key puts this word.
     fn follow(&mut self, step: &Step, of_key: Option<u16>) {
         match (step.event, step.shown.ans) {
-            (Event::Key(_), 0x01) => self.words.extend(of_key),
+            (Event::Key(_) | Event::Scan(_), 0x01) => self.words.extend(of_key),
             (Event::Call(0x05, ..), 0x0B) => self.words.extend(step.word_of_program()),
-            (Event::Key(_), 0x03) => self.words = VecDeque::from([0x0000]),
+            (_, 0x03) => self.words = VecDeque::from([0x0000]),
             (Event::Empty, _) => self.words.clear(),
             _ => {}
         }
@@ -295,9 +315,9 @@ fn insert_toggles_at_5200_and_52e0_alone() {
         |_| true,
         |toggles: &mut [usize; 2], step| {
             let named = matches!(step.word_of_key(), Some(0x5200 | 0x52E0));
-            let held = step.before.flag_bytes()[1] & INSERT != 0;
+            let (held, holds) = step.holds_insert().unwrap_or_default();
             assert_eq!(step.toggles_insert(), named && !held);
-            assert!(!named || step.shown.flags[1] & INSERT != 0);
+            assert!(!named || holds);
             toggles[usize::from(step.shown.word == 0x52E0)] += usize::from(step.toggles_insert());
         },
     );
@@ -316,7 +336,7 @@ const MET: [(&str, fn(&Step) -> bool); 13] = [
         step.shown.ans == 0x01 && step.word_of_key().is_some_and(is_of_grey_key)
     }),
     ("a grey key's word with Ctrl", |step| {
-        step.shown.flags[0] & CTRL != 0 && step.word_of_key().is_some_and(is_of_grey_key)
+        step.has_ctrl() && step.word_of_key().is_some_and(is_of_grey_key)
     }),
     ("a grey key's word dropped", |step| {
         step.shown.ans == 0x02 && step.word_of_key().is_some_and(is_of_grey_key)

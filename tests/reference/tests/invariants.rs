@@ -1,19 +1,20 @@
 //! What holds after every event, over random lists.
 
-use reference::generator::{random_events, typed_on, Random, FLAVOURS};
+use reference::generator::{random_events, typed_on, with_scanner, Random, FLAVOURS};
 use reference::queue::{as_an_old_program_sees, is_enhanced};
-use reference::{report, Event, Outcome, Service, CODE_SETS, REPORT_LENGTH};
+use reference::{report, Device, Event, Outcome, Service, CODE_SETS, DEVICES, REPORT_LENGTH};
 
 const EVENTS: usize = 200_000;
 
-/// Runs long random lists, typed on either set, and shows each step: the service before, the event, its
-/// outcome and the service after.
+/// Runs long random lists, typed on either set and with a scanner beside, and shows each step: the service
+/// before, the event, its outcome and the service after.
 fn each_step(mut check: impl FnMut(&Service, &Event, &Outcome, &Service)) {
     let mut random = Random::new(16);
     for (place, flavour) in FLAVOURS.into_iter().enumerate() {
         for set in CODE_SETS {
             let mut service = Service::on_set(set, (5 * place % 16) as u8).unwrap();
             let events = random_events(&mut random, flavour, EVENTS);
+            let events = with_scanner(&mut random, &events);
             let typed = |event| typed_on(&mut random, set, event);
             for event in events.into_iter().flat_map(typed) {
                 let before = service.clone();
@@ -25,14 +26,18 @@ fn each_step(mut check: impl FnMut(&Service, &Event, &Outcome, &Service)) {
 }
 
 #[test]
-fn sum_is_zero_without_alt() {
-    let mut sums = 0;
-    each_step(|_, _, outcome, service| {
-        let alt = outcome.flags[0] & 0x08 != 0;
-        assert!(alt || service.alt_sum() == 0);
-        sums += usize::from(service.alt_sum() > 0);
+fn sum_is_zero_without_alt_of_the_same_port() {
+    let mut sums = [0; DEVICES.len()];
+    each_step(|_, _, _, service| {
+        for (sums, device) in sums.iter_mut().zip(DEVICES) {
+            let (port, other) = (service.port(device), service.port(device.other()));
+            assert!(port.keys().alt() || port.alt_sum() == 0);
+            *sums += usize::from(port.alt_sum() > 0 && !other.keys().alt());
+        }
     });
-    assert!(sums > 1_000, "the lists hold sums");
+    for sums in sums {
+        assert!(sums > 1_000, "the lists hold sums beside no Alt: {sums}");
+    }
 }
 
 #[test]
@@ -52,6 +57,27 @@ fn flag_bytes_are_consistent() {
         assert_eq!(byte_96 & 0xF0, 0);
         assert_eq!(byte_97 & 0x08, 0);
     });
+}
+
+/// Locks and pause may change. All other bits belong to the keyboard, or to the line.
+#[test]
+fn other_flags_stay_at_a_byte_of_the_scanner() {
+    let mut changes = 0;
+    each_step(|before, event, outcome, _| {
+        if let Event::Scan(_) = event {
+            let [byte_17, byte_18, byte_96, byte_97] = before.flag_bytes();
+            let [locks, pause] = [outcome.flags[0] & 0xF0, outcome.flags[1] & 0x08];
+            let expected = [
+                byte_17 & 0x0F | locks,
+                byte_18 & 0xF7 | pause,
+                byte_96,
+                byte_97,
+            ];
+            assert_eq!(outcome.flags, expected);
+            changes += usize::from(outcome.flags != before.flag_bytes());
+        }
+    });
+    assert!(changes > 10_000, "the scanner turns locks: {changes}");
 }
 
 #[test]
@@ -106,6 +132,18 @@ fn every_answer_is_met() {
     assert!((0..256).all(|ans| seen[ans] == expected(ans)));
 }
 
+/// Those of a key, and that a reply is ignored: none is taken from a scanner, and none gives up.
+#[test]
+fn the_scanner_has_seven_answers() {
+    let mut seen = [false; 256];
+    each_step(|_, event, outcome, _| {
+        let from_the_scanner = matches!(event.incoming(), Some((Device::Scanner, _)));
+        seen[usize::from(outcome.ans)] |= from_the_scanner;
+    });
+    let expected = |ans: usize| ans <= 0x05 || ans == 0x07;
+    assert!((0..256).all(|ans| seen[ans] == expected(ans)));
+}
+
 #[test]
 fn only_fifteen_locks_are_made() {
     for locks in 0..=255 {
@@ -124,10 +162,17 @@ fn only_fifteen_locks_are_made() {
     }
 }
 
+const EVENTS_TO_REPORT: [Event; 4] = [
+    Event::Poll,
+    Event::Call(0xFF, 0, 0),
+    Event::Key(0x2A),
+    Event::Scan(0x2A),
+];
+
 #[test]
 fn short_buffer_is_refused_before_all_else() {
     let mut service = Service::unlocked();
-    for event in [Event::Poll, Event::Call(0xFF, 0, 0), Event::Key(0x2A)] {
+    for event in EVENTS_TO_REPORT {
         let mut buffer = [0xA5; REPORT_LENGTH - 1];
         assert_eq!(service.reported_event(&event, &mut buffer), Err(9));
         assert_eq!(buffer, [0xA5; REPORT_LENGTH - 1]);
@@ -137,7 +182,7 @@ fn short_buffer_is_refused_before_all_else() {
 
 #[test]
 fn long_buffer_keeps_its_tail() {
-    for event in [Event::Poll, Event::Call(0xFF, 0, 0), Event::Key(0x2A)] {
+    for event in EVENTS_TO_REPORT {
         let mut buffer = [0xA5; REPORT_LENGTH + 3];
         let outcome = Service::unlocked().reported_event(&event, &mut buffer);
         let (text, tail) = buffer.split_at(REPORT_LENGTH);

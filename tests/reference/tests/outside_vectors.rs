@@ -2,7 +2,7 @@
 
 use reference::vectors::{
     from_hex, Vector, BENCH_CASES, ENHANCED_WORDS, EXAMPLE_PACK, EXAMPLE_TEXT, GREY_KEYS, READINGS,
-    REFUSED_CALLS,
+    REFUSED_CALLS, SCANNER,
 };
 use reference::{read_event, trace, Event, Outcome, Service};
 
@@ -58,6 +58,11 @@ fn grey_keys_hold() {
 }
 
 #[test]
+fn scanner_vectors_hold() {
+    check_last(&SCANNER);
+}
+
+#[test]
 fn bench_cases_hold_with_locks_made_on() {
     assert_eq!(last_key(4, &[0x2A, 0x1E]).word, 0x1E61);
     assert_eq!(last_key(2, &[0x47]).word, 0x4737);
@@ -97,6 +102,13 @@ fn full_queue_shows_the_dropped_alt_word() {
 fn cut_pack_reports_what_came_before() {
     let text = trace(&from_hex("4B1E4B"));
     assert!(text.starts_with(b"ev=K\nans=01\nword=1E61\n"));
+    assert!(text.ends_with(b"end=0002\nrefused=7\n"));
+}
+
+#[test]
+fn cut_event_of_the_scanner_reports_what_came_before() {
+    let text = trace(&from_hex("531E53"));
+    assert!(text.starts_with(b"ev=S\nans=01\nword=1E61\n"));
     assert!(text.ends_with(b"end=0002\nrefused=7\n"));
 }
 

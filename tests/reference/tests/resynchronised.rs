@@ -1,9 +1,10 @@
-//! After the all-up run of the set in force, an emptying and a restart, a service is as one newly made on
-//! that set with its locks. Frames stand in every list: sound ones for keyboard bytes, also of the run,
-//! and refused ones anywhere. Changes of set stand in every list but that of the run.
+//! After the all-up run on both ports, the keyboard's in the set in force, an emptying and a restart, a
+//! service is as one newly made on that set with its locks. Bytes of the scanner stand in every list.
+//! Frames do too: sound ones for keyboard bytes, also of the run, and refused ones anywhere. Changes of
+//! set stand in every list but that of the run.
 
 use reference::generator::{all_up_inputs, in_turn, random_inputs, Random};
-use reference::{set_after, Input, Service, CODE_SETS};
+use reference::{set_after, Input, Port, Service, CODE_SETS, DEVICES};
 
 const FIRST_LISTS: usize = 4_000;
 
@@ -17,6 +18,7 @@ fn resynchronise(service: &mut Service, random: &mut Random) {
 #[test]
 fn any_first_list_is_forgotten() {
     let mut random = Random::new(3);
+    let mut left = [0; DEVICES.len()];
     for list in 0..FIRST_LISTS {
         let (flavour, set, locks) = in_turn(list);
         let mut used = Service::on_set(set, locks).unwrap();
@@ -27,6 +29,9 @@ fn any_first_list_is_forgotten() {
         }
         let set = set_after(set, &first);
         assert_eq!(used.set(), set, "list {list}");
+        for (left, device) in left.iter_mut().zip(DEVICES) {
+            *left += usize::from(*used.port(device) != Port::new());
+        }
         resynchronise(&mut used, &mut random);
 
         let mut new = Service::on_set(set, used.flag_bytes()[0] >> 4).unwrap();
@@ -34,6 +39,10 @@ fn any_first_list_is_forgotten() {
         for input in random_inputs(&mut random, flavour, set, 50) {
             assert_eq!(used.input(&input), new.input(&input), "list {list}");
         }
+    }
+    for (left, device) in left.into_iter().zip(DEVICES) {
+        println!("{left} of {FIRST_LISTS} lists leave something at the device {device:?}");
+        assert!(left > FIRST_LISTS / 2, "there is something to forget");
     }
 }
 

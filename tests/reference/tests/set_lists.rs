@@ -1,21 +1,25 @@
-//! The random lists meet what is new with set 2, each thing in a good part of them.
+//! The random lists meet what is new with set 2, each thing in a good part of them, though a scanner types
+//! in most of them.
 
-use reference::generator::random_lists;
+mod steps;
+
 use reference::Translation::{self, SetOne, SetTwo, SetTwoMarked};
-use reference::{CodeSet, Event, Input, Outcome, Service};
+use reference::{CodeSet, Event, Input, Outcome, Service, CODE_SETS};
+use steps::{Memory, LISTS};
 
-const LISTS: usize = 2_000;
-const LONGEST: usize = 200;
+/// The bytes of the keyboard so far.
+#[derive(Default)]
+struct Bytes(Vec<u8>);
 
-/// One input of a list, and the service before and after it.
-struct Step<'a> {
-    before: &'a Service,
-    input: &'a Input,
-    shown: Outcome,
-    after: &'a Service,
-    /// The bytes of the keyboard so far, that of this input too.
-    bytes: &'a [u8],
+impl Memory for Bytes {
+    fn keep(&mut self, _: &Service, input: &Input, _: &Outcome) {
+        if let Some(Event::Key(byte)) = input.fed() {
+            self.0.push(byte);
+        }
+    }
 }
+
+type Step<'a> = steps::Step<'a, Bytes>;
 
 impl Step<'_> {
     /// The byte of the keyboard that is fed.
@@ -26,13 +30,17 @@ impl Step<'_> {
         }
     }
 
+    fn is_of_scanner(&self) -> bool {
+        matches!(self.input.fed(), Some(Event::Scan(_)))
+    }
+
     fn is_byte_of_set_2(&self) -> bool {
         self.before.set() == CodeSet::Two && self.byte().is_some()
     }
 
     /// A byte of a set 2 keyboard that is the last of this string.
     fn ends(&self, string: &[u8]) -> bool {
-        self.is_byte_of_set_2() && self.bytes.ends_with(string)
+        self.is_byte_of_set_2() && self.kept.0.ends_with(string)
     }
 
     /// A byte of a set 2 keyboard with this answer.
@@ -68,40 +76,8 @@ impl Step<'_> {
     }
 }
 
-fn each_step(set: CodeSet, locks: u8, inputs: &[Input], mut look: impl FnMut(&Step)) {
-    let mut service = Service::on_set(set, locks).unwrap();
-    let mut bytes = Vec::new();
-    for input in inputs {
-        let before = service.clone();
-        let shown = service.input(input);
-        if let Some(Event::Key(byte)) = input.fed() {
-            bytes.push(byte);
-        }
-        look(&Step {
-            before: &before,
-            input,
-            shown,
-            after: &service,
-            bytes: &bytes,
-        });
-    }
-}
-
-/// In how many lists each of these is met.
 fn lists_that_meet<Rule: Fn(&Step) -> bool>(rules: &[Rule]) -> Vec<usize> {
-    let mut counts = vec![0; rules.len()];
-    for (set, locks, inputs) in random_lists(0x5E7, LISTS, LONGEST) {
-        let mut met = vec![0; rules.len()];
-        each_step(set, locks, &inputs, |step| {
-            for (met, rule) in met.iter_mut().zip(rules) {
-                *met |= usize::from(rule(step));
-            }
-        });
-        for (count, met) in counts.iter_mut().zip(met) {
-            *count += met;
-        }
-    }
-    counts
+    steps::lists_that_meet(0x5E7, rules)
 }
 
 #[test]
@@ -181,6 +157,16 @@ const BROUGHT_ABOUT: [(&str, fn(&Step) -> bool); 20] = [
         step.is_byte_of_set_2() && step.shown.sent == 6
     }),
 ];
+
+#[test]
+fn a_scanner_types_beside_either_set() {
+    let types = |set| move |step: &Step| step.is_of_scanner() && step.before.set() == set;
+    let rules = CODE_SETS.map(types);
+    for (set, count) in CODE_SETS.into_iter().zip(lists_that_meet(&rules)) {
+        println!("a byte of the scanner on {set:?}: {count} of {LISTS} lists");
+        assert!(count > LISTS / 2, "{set:?}");
+    }
+}
 
 #[test]
 fn set_2_brings_about_what_set_1_does() {

@@ -1,11 +1,16 @@
 //! Set 2: the table, marks and changes of set one by one, and that a set 2 keyboard is read as one of
 //! set 1 that has the same keys pressed.
 
-use reference::generator::{all_up_run, in_turn, random_events, random_lists, typed_on, Random};
+mod shown;
+
+use reference::generator::{
+    all_up_run, in_turn, random_events, random_lists, typed_on, with_scanner, Random,
+};
 use reference::translation::translated;
 use reference::vectors::from_hex;
 use reference::Translation::{self, SetOne, SetTwo, SetTwoMarked};
-use reference::{CodeSet, Event, Input, Outcome, Service, CODE_SETS};
+use reference::{CodeSet, Event, Input, Service, CODE_SETS};
+use shown::{assert_shown, Shown};
 
 const LISTS: usize = 2_000;
 const LONGEST: usize = 200;
@@ -58,11 +63,7 @@ const READ: [(Translation, u8, Option<u8>, Translation); 31] = [
     (SetTwoMarked, 0x13, Some(0xF0), SetTwo),
 ];
 
-/// Answer, word, flag bytes and bytes sent.
-type Shown = (u8, u16, u32, u8);
-
-/// Inputs from locks 0 on set 1, and what the last one shows. `K1E` is a byte of the keyboard, `frame=624`
-/// a frame by its number, `set=2` a change of set.
+/// Inputs from locks 0 on set 1, and what the last one shows.
 const SHOWN: [(&str, Shown); 61] = [
     // Keys, alone and with a modifier.
     ("set=2 K1C", (0x01, 0x1E61, 0x00000000, 0)),
@@ -135,20 +136,6 @@ const SHOWN: [(&str, Shown); 61] = [
     ("P KFE P KFA P set=2 set=2", (0x00, 0x0000, 0x00000040, 3)),
 ];
 
-fn input(word: &str) -> Input {
-    let number = |digits| u16::from_str_radix(digits, 16).unwrap();
-    match (word, word.split_at(1)) {
-        ("set=1", _) => Input::Change(CodeSet::One),
-        ("set=2", _) => Input::Change(CodeSet::Two),
-        ("P", _) => Input::Event(Event::Poll),
-        ("T", _) => Input::Event(Event::TimeOut),
-        ("E", _) => Input::Event(Event::Empty),
-        ("R", _) => Input::Event(Event::Restart),
-        (_, ("K", byte)) => Input::Event(Event::Key(number(byte) as u8)),
-        _ => Input::Frame(number(word.strip_prefix("frame=").unwrap())),
-    }
-}
-
 /// Runs the lists and shows each step: the service before, the input and the service after.
 fn each_step(mut check: impl FnMut(&Service, &Input, &Service)) {
     for (set, locks, inputs) in random_lists(0x5E7, LISTS, LONGEST) {
@@ -211,17 +198,7 @@ fn every_byte_is_read() {
 
 #[test]
 fn inputs_show_what_was_worked_out() {
-    for (text, (ans, word, flags, sent)) in SHOWN {
-        let mut service = Service::unlocked();
-        let shown = text.split(' ').map(|word| service.input(&input(word)));
-        let expected = Outcome {
-            ans,
-            word,
-            flags: flags.to_be_bytes(),
-            sent,
-        };
-        assert_eq!(shown.last(), Some(expected), "{text}");
-    }
+    assert_shown(&SHOWN);
 }
 
 #[test]
@@ -267,7 +244,8 @@ fn only_keyboard_bytes_and_changes_touch_the_mark() {
     });
 }
 
-/// A mark shows what stands, and the byte behind it what set 1's one byte shows.
+/// A mark shows what stands, and the byte behind it what set 1's one byte shows. What the scanner sends is
+/// the same on both.
 #[test]
 fn typing_shows_the_same_on_either_set() {
     let mut random = Random::new(0x2E7);
@@ -276,7 +254,8 @@ fn typing_shows_the_same_on_either_set() {
         let (flavour, _, locks) = in_turn(list);
         let mut one = Service::new(locks).unwrap();
         let mut two = Service::on_set(CodeSet::Two, locks).unwrap();
-        for event in random_events(&mut random, flavour, LONGEST) {
+        let events = random_events(&mut random, flavour, LONGEST);
+        for event in with_scanner(&mut random, &events) {
             let typed = typed_on(&mut random, CodeSet::Two, event);
             let (last, before) = typed.split_last().unwrap();
             for mark in before {

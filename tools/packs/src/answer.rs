@@ -26,14 +26,15 @@ impl Answer {
     /// None if no event of this tag is answered so.
     pub fn of(tag: char, ans: u8) -> Option<Answer> {
         let (meaning, shown) = match (tag, ans) {
-            ('K', 0x00) => ("nothing", Shown::Never),
-            ('K', 0x01) => ("put", Shown::Word),
-            ('K', 0x02) => ("queue full, dropped", Shown::Word),
-            ('K', 0x03) => ("break, queue holds 0000 alone", Shown::Never),
-            ('K', 0x04) => ("restart asked", Shown::Never),
-            ('K', 0x05) => ("overrun, bytes were lost", Shown::Never),
+            ('K' | 'S', 0x00) => ("nothing", Shown::Never),
+            ('K' | 'S', 0x01) => ("put", Shown::Word),
+            ('K' | 'S', 0x02) => ("queue full, dropped", Shown::Word),
+            ('K' | 'S', 0x03) => ("break, queue holds 0000 alone", Shown::Never),
+            ('K' | 'S', 0x04) => ("restart asked", Shown::Never),
+            ('K' | 'S', 0x05) => ("overrun, bytes were lost", Shown::Never),
             ('K', 0x06) => ("reply taken", Shown::Never),
             ('K', 0x07) => ("reply ignored", Shown::Never),
+            ('S', 0x07) => ("scanner's reply ignored", Shown::Never),
             ('T', 0x07) => ("time-out ignored", Shown::Never),
             ('C', 0x08) => ("returned", Shown::Word),
             ('C', 0x09) => ("no word, queue empty", Shown::Never),
@@ -119,8 +120,17 @@ mod tests {
             let answered = |&ans: &u8| Answer::of(tag, ans).is_some();
             (0x00..=0xFF).filter(answered).count()
         };
-        let counts = ['K', 'C', 'P', 'T', 'E', 'R', 'X'].map(count);
-        assert_eq!(counts, [9, 8, 2, 3, 1, 1, 0]);
+        let counts = ['K', 'S', 'C', 'P', 'T', 'E', 'R', 'X'].map(count);
+        assert_eq!(counts, [9, 7, 8, 2, 3, 1, 1, 0]);
+    }
+
+    #[test]
+    fn the_line_takes_nothing_from_a_scanner() {
+        assert_eq!(told('S', 0x07, 0x0000), "scanner's reply ignored");
+        for ans in [0x06, 0x0E] {
+            assert!(Answer::of('K', ans).is_some());
+            assert_eq!(Answer::of('S', ans), None);
+        }
     }
 
     #[test]

@@ -108,6 +108,21 @@ at    ev bytes        what happened                  lamps  line                
         assert_eq!(text, expected);
     }
 
+    /// A scanner changes only flags that both ports share.
+    #[test]
+    fn a_scanner_has_its_own_lines() {
+        let caps = "ev=S\nans=00\nword=0000\nflags=40000040\nsent=1\n";
+        let reply = "ev=S\nans=07\nword=0000\nflags=40000040\nsent=1\n";
+        let trace = [POLL, caps, reply, "end=0005\nrefused=0\n"].concat();
+        let text = explain(b"PS\x3AS\xFA", &trace).unwrap();
+        let expected = [
+            "0001  S  53 3A        nothing                        ---    LED, 1 sent           Caps Lock on",
+            "0003  S  53 FA        scanner's reply ignored        ---    LED, 1 sent",
+        ];
+        let lines: Vec<&str> = text.lines().collect();
+        assert_eq!(lines[2..4], expected);
+    }
+
     #[test]
     fn each_refusal_is_told() {
         let told = last_line(b"PX", &[POLL, "end=0001\nrefused=6\n"].concat());
@@ -117,6 +132,8 @@ at    ev bytes        what happened                  lamps  line                
             told,
             "0000  refused 7: the pack ends within the event 43 05 1E"
         );
+        let told = last_line(b"PS", &[POLL, "end=0001\nrefused=7\n"].concat());
+        assert_eq!(told, "0001  refused 7: the pack ends within the event 53");
         let told = last_line(&[b'P'; 32_769], "end=0000\nrefused=8\n");
         assert_eq!(
             told,

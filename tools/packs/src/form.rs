@@ -4,8 +4,8 @@ use std::ops::RangeInclusive;
 
 #[derive(Clone, Copy, Debug, PartialEq, Eq)]
 pub enum Form {
-    /// One K event for each byte.
-    Key,
+    /// One event of this tag for each byte.
+    Typed(u8),
     /// A function, then its bytes a and b; a missing one is 00.
     Call,
     /// An event that is its tag alone.
@@ -17,7 +17,8 @@ pub enum Form {
 impl Form {
     pub fn named(name: &str) -> Option<Form> {
         let form = match name {
-            "key" => Form::Key,
+            "key" => Form::Typed(b'K'),
+            "scanner" => Form::Typed(b'S'),
             "call" => Form::Call,
             "poll" => Form::Tag(b'P'),
             "time-out" => Form::Tag(b'T'),
@@ -32,7 +33,7 @@ impl Form {
     /// How many bytes may follow the name.
     pub fn operands(self) -> RangeInclusive<usize> {
         match self {
-            Form::Key | Form::Bytes => 1..=usize::MAX,
+            Form::Typed(_) | Form::Bytes => 1..=usize::MAX,
             Form::Call => 1..=3,
             Form::Tag(_) => 0..=0,
         }
@@ -41,7 +42,7 @@ impl Form {
     /// What a pack holds for it.
     pub fn encode(self, operands: &[u8]) -> Vec<u8> {
         match self {
-            Form::Key => operands.iter().flat_map(|&byte| [b'K', byte]).collect(),
+            Form::Typed(tag) => operands.iter().flat_map(|&byte| [tag, byte]).collect(),
             Form::Call => {
                 let mut event = [b"C", operands].concat();
                 event.resize(4, 0x00);
@@ -64,6 +65,7 @@ mod tests {
     #[test]
     fn each_name_has_its_bytes() {
         assert_eq!(encoded("key", &[0x2A, 0x1E]), b"K\x2AK\x1E");
+        assert_eq!(encoded("scanner", &[0x2A, 0x53]), b"S\x2AS\x53");
         assert_eq!(encoded("call", &[0x05, 0x1E, 0x61]), b"C\x05\x1E\x61");
         assert_eq!(encoded("call", &[0x10]), b"C\x10\x00\x00");
         assert_eq!(encoded("poll", &[]), b"P");
@@ -75,7 +77,7 @@ mod tests {
 
     #[test]
     fn other_names_are_none() {
-        for name in ["", "Key", "keys", "timeout", "K", "P"] {
+        for name in ["", "Key", "keys", "scan", "timeout", "K", "S"] {
             assert_eq!(Form::named(name), None);
         }
     }

@@ -56,7 +56,7 @@ fn event_length(pack: &[u8], start: usize) -> Result<usize, u8> {
     }
     let length = match pack.get(start) {
         None => 0,
-        Some(b'K') => 2,
+        Some(b'K' | b'S') => 2,
         Some(b'C') => 4,
         Some(b'P' | b'T' | b'E' | b'R') => 1,
         Some(_) => return Err(UNKNOWN_TAG),
@@ -73,12 +73,13 @@ mod tests {
 
     #[test]
     fn events_stand_one_behind_the_other() {
-        let pack = b"K\x2AC\x05\x1E\x61PTER";
+        let pack = b"K\x2AC\x05\x1E\x61PTERS\x53";
         let layout = layout(pack);
         let offsets: Vec<usize> = layout.events.iter().map(|event| event.offset).collect();
-        assert_eq!(offsets, [0, 2, 6, 7, 8, 9]);
+        assert_eq!(offsets, [0, 2, 6, 7, 8, 9, 10]);
         assert_eq!(layout.events[1].bytes, b"C\x05\x1E\x61");
-        assert_eq!((layout.end, layout.refused), (10, 0));
+        assert_eq!(layout.events[6].bytes, b"S\x53");
+        assert_eq!((layout.end, layout.refused), (12, 0));
     }
 
     #[test]
@@ -89,7 +90,7 @@ mod tests {
         };
         assert_eq!(ending(b""), (0, 0, 0));
         assert_eq!(ending(b"PXP"), (1, 1, UNKNOWN_TAG));
-        for cut in [b"PK".as_slice(), b"PC", b"PC\x05", b"PC\x05\x1E"] {
+        for cut in [b"PK".as_slice(), b"PS", b"PC", b"PC\x05", b"PC\x05\x1E"] {
             assert_eq!(ending(cut), (1, 1, EVENT_CUT_SHORT));
         }
         let longest = [b'P'; MAXIMUM_PACK];

@@ -40,7 +40,7 @@ pub fn read(text: &str) -> Result<Trace, Fault> {
 
 /// The five lines of an event; none may contradict those before it.
 fn report(lines: &mut Lines) -> Result<Report, Fault> {
-    let tag = lines.value("ev", "one of K, C, P, T, E, R", tag)?;
+    let tag = lines.value("ev", "one of K, S, C, P, T, E, R", tag)?;
     let ans = lines.hexadecimal("ans", 2)? as u8;
     let Some(answer) = Answer::of(tag, ans) else {
         return lines.fault(format!("no event {tag} is answered by {ans:02X}"));
@@ -64,7 +64,7 @@ fn report(lines: &mut Lines) -> Result<Report, Fault> {
 }
 
 fn tag(value: &str) -> Option<char> {
-    let tags = ['K', 'C', 'P', 'T', 'E', 'R'];
+    let tags = ['K', 'S', 'C', 'P', 'T', 'E', 'R'];
     tags.into_iter().find(|&tag| value.chars().eq([tag]))
 }
 
@@ -96,6 +96,7 @@ mod tests {
         let cases = [
             ("ev=P", "ev=p", 1),
             ("ev=P", "ev=K", 2),
+            ("ev=P", "ev=S", 2),
             ("ans=0C", "ans=0D", 3),
             ("ans=0C", "ans=0F", 2),
             ("word=00ED", "word=01ED", 3),

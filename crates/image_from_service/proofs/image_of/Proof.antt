@@ -20,9 +20,12 @@ image-of-requires c κs = search needs
 image-of-requires-2 : tie.Need-image-of-requires-2
 image-of-requires-2 c κs = search needs
 
+image-of-requires-3 : tie.Need-image-of-requires-3
+image-of-requires-3 c κs = search needs
+
 returns : tie.Need-returns
 unfolding imageOf
-returns c = simp (c .image-of2 .ensures, ← (c .before .image-of .ensures), ← (c .before .before .input-number .ensures), ← (c .before .before .before .prefix-number .ensures), ← (c .before .before .before .before .flag-bytes .ensures))
+returns c = simp (c .image-of3 .ensures, ← (c .before .image-of2 .ensures), ← (c .before .before .image-of .ensures), ← (c .before .before .before .input-number .ensures), ← (c .before .before .before .before .prefix-number .ensures), ← (c .before .before .before .before .before .flag-bytes .ensures))
 
 pub image-of-spec : {M : Type 1} → statement M
 image-of-spec =
@@ -33,4 +36,5 @@ image-of-spec =
     input-number-requires
     image-of-requires
     image-of-requires-2
+    image-of-requires-3
     returns)

@@ -5,6 +5,9 @@ use borrow.Author.Needs.{needs}
 use Rattle.image_to_service.proofs.service_of.Statement.{statement}
 use Rattle.image_to_service.proofs.service_of.Tie as tie
 
+keyboard-of-requires : tie.Need-keyboard-of-requires
+keyboard-of-requires c κs = search needs
+
 port-of-requires : tie.Need-port-of-requires
 port-of-requires c κs = search needs
 
@@ -22,12 +25,13 @@ codes-of-requires c κs = search needs
 
 returns : tie.Need-returns
 unfolding serviceOf
-returns c = simp (c .codes-of .ensures, ← (c .before .before .line-of .ensures), ← (c .before .before .before .queue-of .ensures), ← (c .before .before .before .before .shared-of .ensures), ← (c .before .before .before .before .before .port-of .ensures))
+returns c = simp (c .codes-of .ensures, ← (c .before .before .line-of .ensures), ← (c .before .before .before .queue-of .ensures), ← (c .before .before .before .before .shared-of .ensures), ← (c .before .before .before .before .before .port-of .ensures), ← (c .before .before .before .before .before .before .keyboard-of .ensures))
 
 pub service-of-spec : {M : Type 1} → statement M
 service-of-spec =
     tie.close
     (tie.spec
+    keyboard-of-requires
     port-of-requires
     shared-of-requires
     queue-of-requires

@@ -37,9 +37,16 @@ returns-6 : tie.Need-returns-6
 unfolding taggedOf if_then_else_
 returns-6 c = simp (eq-eqb _ _ (c .if6 .taken), ne-eqb _ _ (c .before .if5 .left), ne-eqb _ _ (c .before .before .if4 .left), ne-eqb _ _ (c .before .before .before .if3 .left), ne-eqb _ _ (c .before .before .before .before .if2 .left), ne-eqb _ _ (c .before .before .before .before .before .if1 .left))
 
+read-scan-requires : tie.Need-read-scan-requires
+read-scan-requires c κs = search needs
+
 returns-7 : tie.Need-returns-7
 unfolding taggedOf if_then_else_
-returns-7 c = simp (ne-eqb _ _ (c .if6 .left), ne-eqb _ _ (c .before .if5 .left), ne-eqb _ _ (c .before .before .if4 .left), ne-eqb _ _ (c .before .before .before .if3 .left), ne-eqb _ _ (c .before .before .before .before .if2 .left), ne-eqb _ _ (c .before .before .before .before .before .if1 .left))
+returns-7 c = simp (c .read-scan .ensures, eq-eqb _ _ (c .before .if7 .taken), ne-eqb _ _ (c .before .before .if6 .left), ne-eqb _ _ (c .before .before .before .if5 .left), ne-eqb _ _ (c .before .before .before .before .if4 .left), ne-eqb _ _ (c .before .before .before .before .before .if3 .left), ne-eqb _ _ (c .before .before .before .before .before .before .if2 .left), ne-eqb _ _ (c .before .before .before .before .before .before .before .if1 .left))
+
+returns-8 : tie.Need-returns-8
+unfolding taggedOf if_then_else_
+returns-8 c = simp (ne-eqb _ _ (c .if7 .left), ne-eqb _ _ (c .before .if6 .left), ne-eqb _ _ (c .before .before .if5 .left), ne-eqb _ _ (c .before .before .before .if4 .left), ne-eqb _ _ (c .before .before .before .before .if3 .left), ne-eqb _ _ (c .before .before .before .before .before .if2 .left), ne-eqb _ _ (c .before .before .before .before .before .before .if1 .left))
 
 pub read-tagged-spec : {M : Type 1} → statement M
 read-tagged-spec =
@@ -53,4 +60,6 @@ read-tagged-spec =
     returns-4
     returns-5
     returns-6
-    returns-7)
+    read-scan-requires
+    returns-7
+    returns-8)

@@ -1,11 +1,12 @@
 //! Lists in which keyboard bytes come as frames too, with noise between them.
 
+use super::devices::with_scanner;
 use super::mixes::{in_turn, random_events, Flavour};
 use super::random::Random;
-use super::sets::{all_up_run, with_sets};
+use super::sets::{all_up_events, with_sets};
 use crate::frame::{read_frame, write_frame, FIRST_DATA_BIT, PARITY_BIT, START_BIT, STOP_BIT};
 use crate::input::Input;
-use crate::pack::Event;
+use crate::pack::{Event, DEVICES};
 use crate::translation::CodeSet;
 
 /// So many lists for services newly made, each with the set and the locks of its service: every flavour in
@@ -25,23 +26,29 @@ pub fn random_lists(
 }
 
 /// A list for a service on this set: so many events and changes of set, and refused frames among them.
-/// It may end anywhere, also behind a prefix or a mark.
+/// Most hold bytes of the scanner. It may end anywhere, also behind a prefix or a mark.
 pub fn random_inputs(
     random: &mut Random,
     flavour: Flavour,
     set: CodeSet,
     length: usize,
 ) -> Vec<Input> {
-    let events = random_events(random, flavour, length);
+    let mut events = random_events(random, flavour, length);
+    if random.below(4) > 0 {
+        events = with_scanner(random, &events);
+    }
     let mut inputs = with_sets(random, set, &events);
     inputs.truncate(length);
     with_frames(random, &inputs)
 }
 
-/// A list that feeds this set's all-up run, an emptying and a restart.
+/// A list that feeds the all-up run at both devices, whichever comes first, an emptying and a restart.
+/// The keyboard's is that of its set.
 pub fn all_up_inputs(random: &mut Random, set: CodeSet) -> Vec<Input> {
-    let run = all_up_run(set).iter().map(|&byte| Event::Key(byte));
-    let events = run.chain([Event::Empty, Event::Restart]);
+    let first = random.pick(&DEVICES);
+    let runs = [first, first.other()].map(|device| all_up_events(device, set));
+    let events = runs.into_iter().flatten();
+    let events = events.chain([Event::Empty, Event::Restart]);
     let inputs: Vec<Input> = events.map(Input::Event).collect();
     with_frames(random, &inputs)
 }

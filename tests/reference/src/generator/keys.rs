@@ -7,7 +7,7 @@ use super::writer::{
 use super::{add_joined, choices, Pack};
 
 /// Keypad keys of the digits 0 to 9.
-const DIGITS: [u8; 10] = [0x52, 0x4F, 0x50, 0x51, 0x4B, 0x4C, 0x4D, 0x47, 0x48, 0x49];
+pub const DIGITS: [u8; 10] = [0x52, 0x4F, 0x50, 0x51, 0x4B, 0x4C, 0x4D, 0x47, 0x48, 0x49];
 
 pub fn add(packs: &mut Vec<Pack>) {
     add_rows(packs);
@@ -25,16 +25,21 @@ fn add_rows(packs: &mut Vec<Pack>) {
         for modifiers in 0..64 {
             let mut pack = Writer::new();
             pack.toggle_locks(locks).modifiers(modifiers);
-            for code in all_codes() {
-                pack.code(code).take();
-                undo(&mut pack, code, modifiers);
-            }
+            type_every_code(&mut pack, modifiers);
             pack.call(0x12, 0, 0).all_up();
             packs.push(Pack {
                 kind: "row",
                 bytes: pack.into_bytes(),
             });
         }
+    }
+}
+
+/// Types every code where these modifiers are down, and takes its word.
+pub fn type_every_code(pack: &mut Writer, modifiers: u8) {
+    for code in all_codes() {
+        pack.code(code).take();
+        undo(pack, code, modifiers);
     }
 }
 

@@ -25,7 +25,7 @@ pub fn add(packs: &mut Vec<Pack>) {
 
 /// How a line comes to its next command.
 #[derive(Clone, Copy)]
-enum Opening {
+pub enum Opening {
     /// The first lamp command of a new line.
     FirstLamps,
     /// Another lamp value after one was handled.
@@ -34,9 +34,9 @@ enum Opening {
     Rate,
 }
 
-const OPENINGS: [Opening; 3] = [Opening::FirstLamps, Opening::OtherLamps, Opening::Rate];
+pub const OPENINGS: [Opening; 3] = [Opening::FirstLamps, Opening::OtherLamps, Opening::Rate];
 
-fn open(case: &mut Writer, opening: Opening) {
+pub fn open(case: &mut Writer, opening: Opening) {
     match opening {
         Opening::FirstLamps => {}
         Opening::OtherLamps => {
@@ -113,7 +113,7 @@ fn run(opening: Opening, meanwhile: Meanwhile, path: &[Event]) -> Writer {
 }
 
 /// All lists of answers that end a command, done or given up at either byte.
-fn paths() -> Vec<Vec<Event>> {
+pub fn paths() -> Vec<Vec<Event>> {
     let (acknowledged, given_up) = byte_paths();
     let mut paths = given_up.clone();
     for first in &acknowledged {
@@ -178,7 +178,7 @@ const CHANGES: [&[Event]; 7] = [
 ];
 
 /// Every list of so many steps, from a restarted line.
-fn strings(
+pub fn strings(
     opening: Opening,
     steps: &'static [&'static [Event]],
     length: u32,

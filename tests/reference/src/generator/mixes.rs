@@ -1,9 +1,8 @@
 //! Random mixes of events, in which the interesting bytes are frequent.
 
-use super::grey;
 use super::random::Random;
 use super::writer::{Writer, ENHANCED_KEYS, LOCK_KEYS, MODIFIERS, PAUSE};
-use super::Pack;
+use super::{devices, grey, Pack};
 use crate::pack::{Event, MAXIMUM_PACK};
 use crate::translation::{CodeSet, CODE_SETS};
 
@@ -16,15 +15,17 @@ pub enum Flavour {
     Everything,
     Enhanced,
     Grey,
+    Scanner,
 }
 
-pub const FLAVOURS: [Flavour; 6] = [
+pub const FLAVOURS: [Flavour; 7] = [
     Flavour::Keys,
     Flavour::Line,
     Flavour::Queue,
     Flavour::Everything,
     Flavour::Enhanced,
     Flavour::Grey,
+    Flavour::Scanner,
 ];
 
 /// The flavour of a numbered list, and the code set and the locks it starts from: each flavour in turn,
@@ -44,6 +45,7 @@ impl Flavour {
             Flavour::Everything => "mix",
             Flavour::Enhanced => "mix-enhanced",
             Flavour::Grey => "mix-grey",
+            Flavour::Scanner => "mix-scanner",
         }
     }
 
@@ -56,6 +58,7 @@ impl Flavour {
             Flavour::Everything => [40, 20, 20, 20, 2, 2],
             Flavour::Enhanced => [50, 46, 2, 2, 1, 1],
             Flavour::Grey => [30, 70, 2, 2, 1, 1],
+            Flavour::Scanner => [60, 14, 10, 20, 2, 1],
         }
     }
 
@@ -68,6 +71,18 @@ impl Flavour {
             Flavour::Everything => [20, 15, 15, 10, 10, 5, 5, 20, 0, 0],
             Flavour::Enhanced => [20, 15, 2, 5, 5, 2, 1, 2, 60, 0],
             Flavour::Grey => [8, 2, 6, 10, 6, 1, 1, 2, 4, 60],
+            Flavour::Scanner => [20, 20, 12, 12, 12, 12, 4, 6, 2, 4],
+        }
+    }
+
+    /// Bytes that are typed one after the other.
+    fn typed(self, random: &mut Random) -> Vec<Event> {
+        match self {
+            Flavour::Scanner => devices::typed(random),
+            _ => key_bytes(random, self)
+                .into_iter()
+                .map(Event::Key)
+                .collect(),
         }
     }
 
@@ -78,7 +93,22 @@ impl Flavour {
             _ => call(random),
         }
     }
+
+    /// What comes where a reply may be due.
+    fn reply(self, random: &mut Random) -> Event {
+        match self {
+            Flavour::Scanner => random.pick(&devices::REPLIES),
+            _ => random.pick(&REPLIES),
+        }
+    }
 }
+
+const REPLIES: [Event; 4] = [
+    Event::Key(0xFA),
+    Event::Key(0xFA),
+    Event::Key(0xFE),
+    Event::TimeOut,
+];
 
 pub fn add(packs: &mut Vec<Pack>) {
     for (place, flavour) in FLAVOURS.into_iter().enumerate() {
@@ -86,43 +116,38 @@ pub fn add(packs: &mut Vec<Pack>) {
         for (count, shortest, longest) in [(300, 1, 60), (80, 100, 600), (12, 2000, 7000)] {
             for _ in 0..count {
                 let events = random.between(shortest, longest);
-                add_mix(packs, flavour, random_events(&mut random, flavour, events));
+                let events = random_events(&mut random, flavour, events);
+                add_mix(packs, flavour.kind(), events);
             }
         }
         for _ in 0..3 {
             let events = random_events(&mut random, flavour, MAXIMUM_PACK);
-            add_mix(packs, flavour, events);
+            add_mix(packs, flavour.kind(), events);
         }
     }
-    add_noise(packs);
+    add_noise(packs, "noise", b"KCPTER");
 }
 
 /// Cut at the longest pack, perhaps inside an event.
-fn add_mix(packs: &mut Vec<Pack>, flavour: Flavour, events: Vec<Event>) {
+pub fn add_mix(packs: &mut Vec<Pack>, kind: &'static str, events: Vec<Event>) {
     let mut writer = Writer::new();
     writer.events(&events);
     let mut bytes = writer.into_bytes();
     bytes.truncate(MAXIMUM_PACK);
-    packs.push(Pack {
-        kind: flavour.kind(),
-        bytes,
-    });
+    packs.push(Pack { kind, bytes });
 }
 
-/// Bytes in which most tags are known, so that a refusal comes after some events.
-fn add_noise(packs: &mut Vec<Pack>) {
+/// Bytes of which most are these tags, so that a refusal comes after some events.
+pub fn add_noise(packs: &mut Vec<Pack>, kind: &'static str, tags: &[u8]) {
     let mut random = Random::new(99);
     for _ in 0..300 {
         let length = random.between(1, 120);
         let byte = |random: &mut Random| match random.below(5) {
             0 => random.byte(),
-            _ => random.pick(b"KCPTER"),
+            _ => random.pick(tags),
         };
         let bytes = (0..length).map(|_| byte(&mut random)).collect();
-        packs.push(Pack {
-            kind: "noise",
-            bytes,
-        });
+        packs.push(Pack { kind, bytes });
     }
 }
 
@@ -131,15 +156,10 @@ pub fn random_events(random: &mut Random, flavour: Flavour, count: usize) -> Vec
     let mut events = Vec::with_capacity(count + 4);
     while events.len() < count {
         match random.weighted(&flavour.events()) {
-            0 => events.extend(key_bytes(random, flavour).into_iter().map(Event::Key)),
+            0 => events.extend(flavour.typed(random)),
             1 => events.push(flavour.call(random)),
             2 => events.push(Event::Poll),
-            3 => events.push(random.pick(&[
-                Event::Key(0xFA),
-                Event::Key(0xFA),
-                Event::Key(0xFE),
-                Event::TimeOut,
-            ])),
+            3 => events.push(flavour.reply(random)),
             4 => events.push(Event::Empty),
             _ => events.push(Event::Restart),
         }
@@ -169,7 +189,7 @@ fn enhanced_call(random: &mut Random) -> Event {
 }
 
 /// One key, or the bytes of a string, perhaps cut.
-fn key_bytes(random: &mut Random, flavour: Flavour) -> Vec<u8> {
+pub fn key_bytes(random: &mut Random, flavour: Flavour) -> Vec<u8> {
     let strings: [&[u8]; 4] = [&PAUSE, &[0xE1, 0x9D, 0xC5], &[0xE1, 0x1D], &[0xE1]];
     match random.weighted(&flavour.keys()) {
         0 => vec![random.between(0x01, 0x58) as u8],

@@ -2,6 +2,7 @@
 //! that no pack holds, random lists.
 
 mod calls;
+mod devices;
 mod enhanced;
 mod frames;
 mod grey;
@@ -12,14 +13,16 @@ mod prefixes;
 mod queue;
 mod random;
 mod refused;
+mod scanner;
 mod sets;
 mod writer;
 
+pub use devices::with_scanner;
 pub use frames::{all_up_inputs, random_inputs, random_lists};
 pub use grey::kept as kept_for_grey_keys;
 pub use mixes::{in_turn, random_events, Flavour, FLAVOURS};
 pub use random::Random;
-pub use sets::{all_up_run, typed_on};
+pub use sets::{all_up_events, all_up_run, typed_on};
 pub use writer::Writer;
 
 use crate::pack::MAXIMUM_PACK;
@@ -42,6 +45,7 @@ pub fn packs() -> Vec<Pack> {
     calls::add(&mut packs);
     refused::add(&mut packs);
     mixes::add(&mut packs);
+    scanner::add(&mut packs);
     packs
 }
 
@@ -59,6 +63,20 @@ fn add_joined(packs: &mut Vec<Pack>, kind: &'static str, cases: impl Iterator<It
         bytes.extend(case);
     }
     packs.push(Pack { kind, bytes });
+}
+
+/// All lists of places, each below its own count, in order.
+fn combinations<const LENGTH: usize>(
+    counts: [usize; LENGTH],
+) -> impl Iterator<Item = [usize; LENGTH]> {
+    (0..counts.iter().product()).map(move |number: usize| {
+        let mut rest = number;
+        counts.map(|count| {
+            let place = rest % count;
+            rest /= count;
+            place
+        })
+    })
 }
 
 /// All lists of `length` places below `choices`, in order.

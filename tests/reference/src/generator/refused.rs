@@ -5,7 +5,7 @@ use super::Pack;
 use crate::pack::MAXIMUM_PACK;
 
 /// Events that stand before the refused place.
-const BEFORE: [&[u8]; 6] = [b"", b"P", b"K\x1E", b"C\x05\x01\x02", b"ERT", b"PK\xFAP"];
+pub const BEFORE: [&[u8]; 6] = [b"", b"P", b"K\x1E", b"C\x05\x01\x02", b"ERT", b"PK\xFAP"];
 
 pub fn add(packs: &mut Vec<Pack>) {
     add_tags(packs);

@@ -1,9 +1,11 @@
 //! Lists in which the keyboard's code set changes, with typing on set 2.
 
+use super::devices::{duet, moved};
 use super::random::Random;
 use super::writer::ALL_UP_RUN;
 use crate::input::Input;
-use crate::pack::Event::{self, Call, Empty, Key, Poll, Restart, TimeOut};
+use crate::pack::Device;
+use crate::pack::Event::{self, Call, Empty, Key, Poll, Restart, Scan, TimeOut};
 use crate::translation::{translated, CodeSet, BREAK, CODE_SETS, MARK};
 
 /// The all-up run as a set 2 keyboard sends it.
@@ -17,6 +19,15 @@ pub fn all_up_run(set: CodeSet) -> &'static [u8] {
         CodeSet::One => &ALL_UP_RUN,
         CodeSet::Two => &ALL_UP_RUN_OF_SET_2,
     }
+}
+
+/// The run as it is fed at the port of a device, on this set.
+pub fn all_up_events(device: Device, set: CodeSet) -> impl Iterator<Item = Event> {
+    let run = match device {
+        Device::Keyboard => all_up_run(set),
+        Device::Scanner => &ALL_UP_RUN,
+    };
+    run.iter().map(move |&byte| device.event(byte))
 }
 
 /// What a mark may meet, mostly with a key behind it that tells whether the mark is still open.
@@ -171,22 +182,39 @@ fn add_stretch(inputs: &mut Vec<Input>, random: &mut Random, set: CodeSet, event
     let sent = if fits { set } else { other(set) };
     let odd = set == CodeSet::Two && random.below(3) > 0;
     for &event in events {
-        if random.below(12) == 0 {
-            let phrase = random.pick(&PHRASES);
-            add_typed(inputs, random, set, phrase);
+        if random.below(6) == 0 {
+            let phrase = phrase(random);
+            add_typed(inputs, random, set, &phrase);
         }
         if odd && random.below(2) == 0 {
-            let string = odd_string(random);
-            inputs.extend(string.iter().map(|&byte| Input::Event(Key(byte))));
+            add_odd_string(inputs, random);
         }
         add_typed(inputs, random, sent, &[event]);
     }
 }
 
-fn odd_string(random: &mut Random) -> &'static [u8] {
-    match random.below(4) {
+/// Some come from the scanner, and some from both ports.
+fn phrase(random: &mut Random) -> Vec<Event> {
+    let phrase = random.pick(&PHRASES);
+    match random.below(6) {
+        0 => phrase.iter().map(moved).collect(),
+        1 | 2 => duet(random),
+        _ => phrase.to_vec(),
+    }
+}
+
+/// Between its bytes the scanner may type.
+fn add_odd_string(inputs: &mut Vec<Input>, random: &mut Random) {
+    let string = match random.below(4) {
         0 => random.pick(&UNMARKED),
         _ => random.pick(&MARKED),
+    };
+    for &byte in string {
+        inputs.push(Input::Event(Key(byte)));
+        if random.below(12) == 0 {
+            let byte = random.byte();
+            inputs.push(Input::Event(Scan(byte)));
+        }
     }
 }
 

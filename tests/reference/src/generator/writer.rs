@@ -1,6 +1,6 @@
 //! Writes events into a pack, by name.
 
-use crate::pack::Event;
+use crate::pack::{Device, Event};
 use crate::queue::CAPACITY;
 
 /// Breaks of every key that has a state, and a space typed.
@@ -33,6 +33,8 @@ pub fn all_codes() -> impl Iterator<Item = u16> {
 #[derive(Default)]
 pub struct Writer {
     bytes: Vec<u8>,
+    /// Where keys come in.
+    device: Device,
 }
 
 impl Writer {
@@ -56,8 +58,14 @@ impl Writer {
         self
     }
 
+    /// Keys come in here from now on; before, it is the keyboard's port.
+    pub fn at(&mut self, device: Device) -> &mut Writer {
+        self.device = device;
+        self
+    }
+
     pub fn key(&mut self, byte: u8) -> &mut Writer {
-        self.event(Event::Key(byte))
+        self.event(self.device.event(byte))
     }
 
     pub fn keys(&mut self, bytes: &[u8]) -> &mut Writer {
@@ -109,15 +117,22 @@ impl Writer {
         self.event(Event::Empty)
     }
 
-    /// Brings all but the locks back to the state of a new service.
+    /// Brings all but the locks and the other port back to the state of a new service.
     pub fn all_up(&mut self) -> &mut Writer {
         self.keys(&ALL_UP_RUN);
         self.events(&[Event::Empty, Event::Restart])
     }
 
+    /// The same for both ports; keys come in at the keyboard's port afterwards.
+    pub fn both_up(&mut self) -> &mut Writer {
+        self.at(Device::Scanner).keys(&ALL_UP_RUN);
+        self.at(Device::Keyboard).all_up()
+    }
+
     /// Brings the line to a handled value with nothing to send.
     pub fn settle_line(&mut self) -> &mut Writer {
-        self.poll().key(0xFA).poll().key(0xFA)
+        let acknowledged = [Event::Poll, Event::Key(0xFA)];
+        self.events(&acknowledged).events(&acknowledged)
     }
 
     /// Fills the queue with so many words, each another letter.

@@ -34,7 +34,7 @@ fn answers_are_in_the_words_of_the_program() {
         let row = page
             .lines()
             .find(|line| line.starts_with(&format!("| {ans:02X} | ")));
-        let answers = ['K', 'C', 'P', 'T', 'E', 'R'].map(|tag| Answer::of(tag, ans));
+        let answers = ['K', 'S', 'C', 'P', 'T', 'E', 'R'].map(|tag| Answer::of(tag, ans));
         for answer in answers.into_iter().flatten() {
             let row = row.unwrap_or_else(|| panic!("no row {ans:02X}"));
             assert!(row.contains(answer.meaning), "{row}: {}", answer.meaning);
