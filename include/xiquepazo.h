@@ -8,8 +8,8 @@
  * pointers, which must be valid, aligned and not null, and must not overlap. One service is used by one thread at a time; an interrupt
  * handler counts as one. Nothing is kept between calls, so different services may be used at the same time.
  *
- * A call takes less than 2 KB of stack (1,792 bytes measured, by a report on set 2) and writes to the registers xmm0 to xmm4, which an interrupt
- * handler that calls the library has to save.
+ * A call takes less than 2 KB of stack (1,920 bytes measured, by a read of port 60 that feeds a key) and writes to the registers xmm0 to xmm4, which an
+ * interrupt handler that calls the library has to save.
  *
  * Refusals, by who causes them. A refused call leaves the service as it was, byte for byte.
  *   1  lock bits above 15                       the maker of the service
@@ -25,8 +25,12 @@
  *  11  a frame from 2048 up, or start bit not 0 the cable, or the board that counts its bits
  *  12  wrong parity in a frame, after 11        the same
  *  13  stop bit of a frame not 1, after 12      the same
+ *  14  keyboard byte while the buffer is full,  the emulation: it hands bytes over faster than they are read, or while the
+ *      or bit 4 of the command byte on          keyboard is disabled
+ *  15  a command to port 64 that is not listed  the program that writes to the ports
+ *  16  a byte to port 60 that is not awaited    the same
  * 6 and 9 run no event and leave the buffer as it was. An event that 2 to 5 refuse has its report written. A pack is only read.
- * 11 to 13 feed nothing.
+ * 11 to 16 feed nothing.
  */
 #ifndef XIQUEPAZO_H
 #define XIQUEPAZO_H
@@ -78,7 +82,10 @@ enum {
     XIQUEPAZO_BAD_START = 10,
     XIQUEPAZO_FRAME_START = 11,
     XIQUEPAZO_FRAME_PARITY = 12,
-    XIQUEPAZO_FRAME_STOP = 13
+    XIQUEPAZO_FRAME_STOP = 13,
+    XIQUEPAZO_PORT_BUSY = 14,
+    XIQUEPAZO_PORT_COMMAND = 15,
+    XIQUEPAZO_PORT_UNAWAITED = 16
 };
 
 /*
@@ -125,6 +132,24 @@ enum {
     XIQUEPAZO_97_RESEND = 0x20,
     XIQUEPAZO_97_LED_COMMAND_RUNS = 0x40,
     XIQUEPAZO_97_GIVEN_UP = 0x80
+};
+
+/* The commands to port 64. */
+enum {
+    XIQUEPAZO_64_READ_COMMAND_BYTE = 0x20,
+    XIQUEPAZO_64_WRITE_COMMAND_BYTE = 0x60,
+    XIQUEPAZO_64_SELF_TEST = 0xAA,
+    XIQUEPAZO_64_DISABLE = 0xAD,
+    XIQUEPAZO_64_ENABLE = 0xAE
+};
+
+/* The bits of the status, which port 64 gives, and of the command byte. Two bits of the status are always on: it is 14, 15, 1C or 1D. */
+enum {
+    XIQUEPAZO_STATUS_FULL = 0x01,      /* the output buffer holds a byte to be read at 60 */
+    XIQUEPAZO_STATUS_ALWAYS_ON = 0x14,
+    XIQUEPAZO_STATUS_COMMANDED = 0x08, /* the last accepted write went to 64 */
+    XIQUEPAZO_COMMAND_INTERRUPTS = 0x01, /* a keyboard byte raises interrupt 1 */
+    XIQUEPAZO_COMMAND_DISABLED = 0x10    /* keyboard bytes are refused */
 };
 
 /*
@@ -188,9 +213,19 @@ struct xiquepazo_port {
     uint8_t sysreq; /* SysReq held, 0 or 1; more is 1 */
 };
 
+/* The controller at ports 60 and 64. */
+struct xiquepazo_controller {
+    uint8_t buffer;    /* 0 empty, 1 holds a key, 2 holds an answer of the controller; any other number is empty */
+    uint8_t byte;      /* what it holds, or where it is empty the byte that was read last, 0 to 255 */
+    uint8_t command;   /* the command byte with bit 0 turned over: 0 means 01, which is new */
+    uint8_t awaiting;  /* 1 where the next write to 60 is the command byte, else 0; more is 1 */
+    uint8_t commanded; /* 1 where the last accepted write went to 64, else 0; more is 1 */
+    uint8_t spare[3];  /* zeros, and not read */
+};
+
 /*
  * The service. Make it by xiquepazo_make or xiquepazo_make_set_2, or fill it with zeros, which is a service newly made on set 1 with no lock on;
- * then leave it to the calls. Each number has a range, which no call leaves, and a number beyond it is read as the range's comment says. 72 bytes, none of
+ * then leave it to the calls. Each number has a range, which no call leaves, and a number beyond it is read as the range's comment says. 80 bytes, none of
  * them padding.
  *
  * From then on its first four bytes are the flag bytes as they stand after the last call, and a panel may read them there; xiquepazo_flags
@@ -209,11 +244,12 @@ struct xiquepazo_service {
     struct xiquepazo_line line;
     struct xiquepazo_queue queue;
     struct xiquepazo_port scanner;
+    struct xiquepazo_controller controller;
 };
 
 /* The struct is laid out as the library has it, or these lines do not compile. */
 #define XIQUEPAZO_AT(member, place) (offsetof(struct xiquepazo_service, member) == (place))
-typedef char xiquepazo_service_is_72_bytes[sizeof(struct xiquepazo_service) == 72 ? 1 : -1];
+typedef char xiquepazo_service_is_80_bytes[sizeof(struct xiquepazo_service) == 80 ? 1 : -1];
 typedef char xiquepazo_flag_bytes_stand_first
     [XIQUEPAZO_AT(flags.byte17, 0) && XIQUEPAZO_AT(flags.byte18, 1) && XIQUEPAZO_AT(flags.byte96, 2) && XIQUEPAZO_AT(flags.byte97, 3) ? 1 : -1];
 typedef char xiquepazo_input_stands_at_4[XIQUEPAZO_AT(input, 4) && XIQUEPAZO_AT(sum, 5) ? 1 : -1];
@@ -233,6 +269,11 @@ typedef char xiquepazo_scanner_stands_at_64
     [XIQUEPAZO_AT(scanner.prefix, 64) && XIQUEPAZO_AT(scanner.sum, 65) && XIQUEPAZO_AT(scanner.shift, 66) && XIQUEPAZO_AT(scanner.ctrl, 67)
              && XIQUEPAZO_AT(scanner.alt, 68) && XIQUEPAZO_AT(scanner.locks, 69) && XIQUEPAZO_AT(scanner.insert, 70)
              && XIQUEPAZO_AT(scanner.sysreq, 71)
+         ? 1
+         : -1];
+typedef char xiquepazo_controller_stands_at_72
+    [XIQUEPAZO_AT(controller.buffer, 72) && XIQUEPAZO_AT(controller.byte, 73) && XIQUEPAZO_AT(controller.command, 74)
+             && XIQUEPAZO_AT(controller.awaiting, 75) && XIQUEPAZO_AT(controller.commanded, 76) && XIQUEPAZO_AT(controller.spare, 77)
          ? 1
          : -1];
 #undef XIQUEPAZO_AT
@@ -293,8 +334,8 @@ uint8_t xiquepazo_report(struct xiquepazo_service *service, struct xiquepazo_tag
 
 /*
  * After a plug event: leaves the service as the all-up run at both ports, E and R would, whatever it was. At neither port is a key down or a prefix
- * open; no code is marked, nothing paused or waiting, the queue empty; the four locks and the set stay. Shows what this R shows: XIQUEPAZO_DONE, and
- * the locks in byte 17. Never refused.
+ * open; no code is marked, nothing paused or waiting, the queue empty, the controller new; the four locks and the set stay. Shows what this R shows:
+ * XIQUEPAZO_DONE, and the locks in byte 17. Never refused.
  */
 struct xiquepazo_shown xiquepazo_resynchronise(struct xiquepazo_service *service);
 
@@ -324,6 +365,34 @@ struct xiquepazo_shown xiquepazo_frame(struct xiquepazo_service *service, uint16
 
 /* The frame of a byte, for what a poll gives such a board to send. */
 uint16_t xiquepazo_frame_of(uint8_t byte);
+
+/*
+ * What is seen of a port event. `shown` is what is seen of an event: of the 'K' event that a read of 60 feeds; else ans 00, or a refusal, with the flag
+ * bytes and `sent` as they stand.
+ */
+struct xiquepazo_port_shown {
+    struct xiquepazo_shown shown;
+    uint8_t byte;      /* read at 60 or 64; 0 for what reads nothing, and where refused */
+    uint8_t status;    /* as a read of 64 would give it now */
+    uint8_t interrupt; /* 1 where interrupt 1 is raised, else 0 */
+    uint8_t fed;       /* 1 where the byte read was a key and was fed, else 0 */
+};
+
+/*
+ * For an emulated panel: ports 60 and 64 of a keyboard controller in front of the service. A byte from the keyboard waits in the output buffer, and the
+ * read of 60 feeds it as a 'K' event; 'K' events that come directly are fed as ever and leave the controller alone. R makes the controller new; E
+ * leaves it. Never in packs or reports.
+ *   from_keyboard  the buffer holds the byte; interrupt 1 where bit 0 of the command byte is on. 14 while the buffer is full or bit 4 is on
+ *   read_60        a key: emptied and fed; an answer: emptied; empty: the last byte again
+ *   read_64        the status
+ *   write_60       the command byte, where it is awaited; else 16
+ *   write_64       20, 60, AA, AD or AE; else 15. 20 and AA put an answer in the place of what the buffer held, without an interrupt
+ */
+struct xiquepazo_port_shown xiquepazo_from_keyboard(struct xiquepazo_service *service, uint8_t byte);
+struct xiquepazo_port_shown xiquepazo_read_60(struct xiquepazo_service *service);
+struct xiquepazo_port_shown xiquepazo_read_64(struct xiquepazo_service *service);
+struct xiquepazo_port_shown xiquepazo_write_60(struct xiquepazo_service *service, uint8_t byte);
+struct xiquepazo_port_shown xiquepazo_write_64(struct xiquepazo_service *service, uint8_t byte);
 
 /* The calls for one kind of event each. */
 static inline struct xiquepazo_shown xiquepazo_tag(struct xiquepazo_service *service, char tag, uint8_t a, uint8_t b, uint8_t c)
@@ -384,7 +453,7 @@ static inline struct xiquepazo_shown xiquepazo_empty(struct xiquepazo_service *s
     return xiquepazo_tag(service, 'E', 0, 0, 0);
 }
 
-/* Restarts the line: idle, byte 97 zero, no rate waits, no LED value handled. */
+/* Restarts the line: idle, byte 97 zero, no rate waits, no LED value handled; and makes the controller new. */
 static inline struct xiquepazo_shown xiquepazo_restart(struct xiquepazo_service *service)
 {
     return xiquepazo_tag(service, 'R', 0, 0, 0);

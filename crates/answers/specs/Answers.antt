@@ -3,18 +3,20 @@
 use Prim.Native.Nat.{ℕ, _+_}
 use Rattle.word.specs.Word.{numberOf}
 use Rattle.frame.specs.Frame.{faultNumber}
+use Rattle.controller.specs.PortEvents.{portRefusalNumber}
 use Rattle.answers.specs.declared.Refusal.{Refusal}
 use Rattle.answers.specs.declared.Refusal.the-variants as refusal
 use Rattle.answers.specs.declared.Answer.{Answer}
 use Rattle.answers.specs.declared.Answer.the-variants.{Nothing, Put, Dropped, Break, RestartAsked, Overrun, Taken, Ignored, Returned, NoWord, Status, Done, Stored, Send, Quiet, GivenUp, Refused}
 
--- 2 function not listed, 3 delay, 4 rate, 5 queue full, 11 to 13 the faults of a frame
+-- 2 function not listed, 3 delay, 4 rate, 5 queue full, 11 to 13 the faults of a frame, 14 to 16 a port event
 abbrev pub refusalNumber : Refusal → ℕ
 refusalNumber refusal.Function = 2
 refusalNumber refusal.Delay = 3
 refusalNumber refusal.Rate = 4
 refusalNumber refusal.Full = 5
 refusalNumber (refusal.Frame fault) = faultNumber fault
+refusalNumber (refusal.Port of-port) = portRefusalNumber of-port
 
 -- 80 plus the refusal's number
 abbrev pub refusedAns : Refusal → ℕ

@@ -1,20 +1,22 @@
-// What an event or a frame answers, and the number and the word by which a report or a struct for C shows it.
+// What an event, a frame or a port event answers, and the number and the word by which a report or a struct for C shows it.
 ghost use mathlib.Core.Path.{_≡_};
-ghost use Rattle.answers.specs.declared.Refusal.the-variants.{Frame};
+ghost use Rattle.answers.specs.declared.Refusal.the-variants.{Frame, Port};
 ghost use Rattle.answers.specs.Answers.{refusedAns, ansOf, wordOf};
+use controller::PortRefusal;
 use frame::Fault;
 use word::Word;
 
-// Why an int 16h call or a frame is turned away.
+// Why an int 16h call, a frame or a port event is turned away.
 pub enum Refusal {
     Function,
     Delay,
     Rate,
     Full,
     Frame(Fault),
+    Port(PortRefusal),
 }
 
-// What an event or a frame answers.
+// What an event, a frame or a port event answers.
 pub enum Answer {
     Nothing,
     Put(Word),
@@ -45,6 +47,16 @@ fn refused_frame(fault: Fault) -> u8
     }
 }
 
+fn refused_port(refusal: PortRefusal) -> u8
+    ensures { λ r. ⌜ r ≡ refusedAns (Port refusal) ⌝ }
+{
+    match refusal {
+        PortRefusal::Busy => 0x8E,
+        PortRefusal::Command => 0x8F,
+        PortRefusal::Unawaited => 0x90,
+    }
+}
+
 fn refused(refusal: Refusal) -> u8
     ensures { λ r. ⌜ r ≡ refusedAns refusal ⌝ }
 {
@@ -54,6 +66,7 @@ fn refused(refusal: Refusal) -> u8
         Refusal::Rate => 0x84,
         Refusal::Full => 0x85,
         Refusal::Frame(fault) => refused_frame(fault),
+        Refusal::Port(of_port) => refused_port(of_port),
     }
 }
 

@@ -9,5 +9,7 @@ pub mod SentCounts
 pub mod Ranges
 pub mod QueueListed
 pub mod OldPrograms
+pub mod Aside
 pub mod Ports
+pub mod Controller
 pub mod ScannerCases

@@ -22,8 +22,10 @@ use Rattle.translation.specs.declared.Passed.the-variants as passed
 use Rattle.translation.specs.Translation.{translatedOf}
 use Rattle.state.specs.declared.Device.{Device}
 use Rattle.state.specs.declared.Device.the-variants.{Keyboard, Scanner}
+use Rattle.controller.specs.declared.Controller.{Controller}
+use Rattle.controller.specs.declared.PortEvent.{PortEvent}
 use Rattle.state.specs.declared.Service.{Service}
-use Rattle.state.specs.State.{newService, portOf, withLine}
+use Rattle.state.specs.State.{newService, portOf, withLine, withController}
 use Rattle.state.specs.Ranges.{InRange}
 use Rattle.answers.specs.declared.Answer.{Answer}
 use Rattle.events.specs.declared.Event.{Event}
@@ -35,7 +37,9 @@ use Rattle.events.specs.Commands.{ledValue, onLine, pollOf, acknowledgeO
 use Rattle.events.specs.Functions.{asStored, forOldProgram, takeOf, lookOf, statusOf, setRateOf, callOf}
 use Rattle.events.specs.Step.{emptyOf, stepOf}
 use Rattle.events.specs.Sets.{changeOf}
+use Rattle.events.specs.Controller.{portStepOf}
 use Rattle.events.specs.Ranges.{StaysInRange}
+use Rattle.events.proofs.Controller.{by-response}
 use Rattle.events.proofs.Calls.{call-by}
 
 -- the service that an outcome leaves
@@ -150,8 +154,16 @@ step-in service (Call function a b) h = call-in service function a b h
 step-in service Poll h = poll-in service h
 step-in service TimeOut h = record { left = line-in service input.timeOut tt h }
 step-in service Empty h = answered-in _ _ (record { queue = queue-stays-in-range .empty; line = h .line })
-step-in service Restart h = record { left = line-in service input.restart tt h }
+step-in service Restart h = record { left = record { queue = h .queue; line = line-stays-in-range .new } }
 step-in service (Scan byte) h = either Left _ _ _ (answered-in service _ h) (typed-in Scanner service byte h)
+
+port-in : (service : Service) (event : PortEvent) → InRange service → Left (portStepOf service event .outcome)
+port-in service event h =
+    let with-any : (controller : Controller) → InRange (withController service controller) = λ _. record { queue = h .queue; line = h .line } in
+    by-response Left service event
+    (λ controller. answered-in _ _ (with-any controller))
+    (λ controller byte. step-in _ (Key byte) (with-any controller))
+    (λ controller refusal. answered-in _ _ (with-any controller))
 
 pub stays-in-range : StaysInRange
 unfolding newService changeOf
@@ -160,4 +172,5 @@ stays-in-range =
       new = λ set locks. record { queue = queue-stays-in-range .empty; line = line-stays-in-range .new };
       event = λ service event h. step-in service event h .left;
       change = λ service set h. answered-in _ _ (record { queue = h .queue; line = h .line }) .left;
+      port = λ service event h. port-in service event h .left;
     }

@@ -78,44 +78,48 @@ accept-line line-answer.Taken taken h = h
 accept-line line-answer.Ignored taken h = record { low = refl }
 accept-line line-answer.GivenUp taken h = record { low = refl }
 
-effect-keeps : (service before : Service) (e : Effect) → Keeps before (onEffect service e)
+-- an outcome that is no refusal
+abbrev Accepted : Outcome → Type 0
+Accepted outcome = Accepts (outcome .answer)
+
+effect-accepted : (service : Service) (e : Effect) → Accepted (onEffect service e)
 unfolding onEffect answeredOf offeredOf brokenOf
-effect-keeps service before effect.Nothing = accepting (record { low = refl })
-effect-keeps service before (effect.Put word) = accepting (either Accepts _ _ _ (record { low = refl }) (record { low = refl }))
-effect-keeps service before effect.Break = accepting (record { low = refl })
-effect-keeps service before effect.RestartAsked = accepting (record { low = refl })
-effect-keeps service before effect.Overrun = accepting (record { low = refl })
+effect-accepted service effect.Nothing = record { low = refl }
+effect-accepted service (effect.Put word) = either Accepts _ _ _ (record { low = refl }) (record { low = refl })
+effect-accepted service effect.Break = record { low = refl }
+effect-accepted service effect.RestartAsked = record { low = refl }
+effect-accepted service effect.Overrun = record { low = refl }
 
-typed-keeps : (device : Device) (service before : Service) (byte : ℕ) → Keeps before (typedOf device service byte)
+typed-accepted : (device : Device) (service : Service) (byte : ℕ) → Accepted (typedOf device service byte)
 unfolding typedOf
-typed-keeps device service before byte = effect-keeps _ before (keyByteOf (portOf device (service .ports)) (service .shared) byte .effect)
+typed-accepted device service byte = effect-accepted _ (keyByteOf (portOf device (service .ports)) (service .shared) byte .effect)
 
-line-keeps : (service before : Service) (after : LineOutcome) (taken : Answer) → Accepts taken → Keeps before (onLine service after taken)
+line-accepted : (service : Service) (after : LineOutcome) (taken : Answer) → Accepts taken → Accepted (onLine service after taken)
 unfolding onLine
-line-keeps service before after taken h = accepting (accept-line (after .answer) taken h)
+line-accepted service after taken h = accept-line (after .answer) taken h
 
-acknowledge-keeps : (service before : Service) → Keeps before (acknowledgeOf service)
+acknowledge-accepted : (service : Service) → Accepted (acknowledgeOf service)
 unfolding acknowledgeOf
-acknowledge-keeps service before = line-keeps service before _ Taken (record { low = refl })
+acknowledge-accepted service = line-accepted service _ Taken (record { low = refl })
 
-resend-keeps : (service before : Service) → Keeps before (resendOf service)
+resend-accepted : (service : Service) → Accepted (resendOf service)
 unfolding resendOf
-resend-keeps service before = line-keeps service before _ Taken (record { low = refl })
+resend-accepted service = line-accepted service _ Taken (record { low = refl })
 
-read-keeps : (service before : Service) (byte : ℕ) → Keeps before (readOf service byte)
+read-accepted : (service : Service) (byte : ℕ) → Accepted (readOf service byte)
 unfolding readOf
-read-keeps service before byte =
-    either (Keeps before) _ _ _ (acknowledge-keeps service before)
-    (either (Keeps before) _ _ _ (resend-keeps service before) (typed-keeps Keyboard service before byte))
+read-accepted service byte =
+    either Accepted _ _ _ (acknowledge-accepted service) (either Accepted _ _ _ (resend-accepted service) (typed-accepted Keyboard service byte))
 
-passed-keeps : (service before : Service) (p : Passed) → Keeps before (onPassed service p)
+passed-accepted : (service : Service) (p : Passed) → Accepted (onPassed service p)
 unfolding answeredOf
-passed-keeps service before passed.Nothing = accepting (record { low = refl })
-passed-keeps service before (passed.Byte byte) = read-keeps service before byte
+passed-accepted service passed.Nothing = record { low = refl }
+passed-accepted service (passed.Byte byte) = read-accepted service byte
 
-key-keeps : (service : Service) (byte : ℕ) → Keeps service (keyOf service byte)
+-- a K event is never refused
+key-accepts : (service : Service) (byte : ℕ) → Accepted (keyOf service byte)
 unfolding keyOf
-key-keeps service byte = passed-keeps _ service (translatedOf (service .codes) byte .passed)
+key-accepts service byte = passed-accepted _ (translatedOf (service .codes) byte .passed)
 
 -- ---- functions
 
@@ -158,17 +162,21 @@ call-keeps service function a b =
 
 step-keeps : (service : Service) (event : Event) → Keeps service (stepOf service event)
 unfolding stepOf pollOf timeOutOf emptyOf answeredOf restartOf scanOf
-step-keeps service (Key byte) = key-keeps service byte
+step-keeps service (Key byte) = accepting (key-accepts service byte)
 step-keeps service (Call function a b) = call-keeps service function a b
-step-keeps service Poll = line-keeps service service _ Taken (record { low = refl })
-step-keeps service TimeOut = line-keeps service service _ Done (record { low = refl })
+step-keeps service Poll = accepting (line-accepted service _ Taken (record { low = refl }))
+step-keeps service TimeOut = accepting (line-accepted service _ Done (record { low = refl }))
 step-keeps service Empty = accepting (record { low = refl })
 step-keeps service Restart = accepting (record { low = refl })
-step-keeps service (Scan byte) = either (Keeps service) _ _ _ (accepting (record { low = refl })) (typed-keeps Scanner service service byte)
+step-keeps service (Scan byte) = accepting (either Accepted _ _ _ (record { low = refl }) (typed-accepted Scanner service byte))
 
 -- a refused event leaves the service, whether its number or its answer is known
 pub refused-step : (service : Service) (event : Event) → isRefusal (shownOf (stepOf service event)) ≡ true → next service event ≡ service
 refused-step service event refused = step-keeps service event .kept refused
+
+pub key-accepted : (service : Service) (byte : ℕ) → isRefusal (shownOf (stepOf service (Key byte))) ≡ false
+unfolding stepOf
+key-accepted service byte = key-accepts service byte .low
 
 pub refused-answer : (service : Service) (event : Event) (refusal : Refusal) → stepOf service event .answer ≡ Refused refusal → next service event ≡ service
 refused-answer service event refusal refused = refused-step service event (rw refused (lt-ltb 0x7F (ansOf (Refused refusal)) (omega arith)))

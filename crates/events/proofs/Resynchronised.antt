@@ -30,6 +30,7 @@ use Rattle.translation.specs.declared.Passed.{Passed}
 use Rattle.translation.specs.declared.Passed.the-variants.{Nothing, Byte}
 use Rattle.translation.specs.Translation.{unmarkedOf, translatedOf, passedOn, translation, codesAfter}
 use Rattle.translation.proofs.Laws.{set-back}
+use Rattle.controller.specs.State.{newController}
 use Rattle.state.specs.declared.Device.{Device}
 use Rattle.state.specs.declared.Device.the-variants.{Keyboard, Scanner}
 use Rattle.state.specs.declared.Ports.{Ports}
@@ -127,7 +128,7 @@ abbrev keptOf : Service → Kept
 keptOf service = record { ports = service .ports; shared = service .shared; codes = service .codes }
 
 abbrev renewed : Kept → Service
-renewed kept = record { ports = kept .ports; shared = kept .shared; queue = emptyQueue; line = newLine; codes = kept .codes }
+renewed kept = record { ports = kept .ports; shared = kept .shared; queue = emptyQueue; line = newLine; codes = kept .codes; controller = newController }
 
 ended : (service : Service) → after service (Empty ∷ Restart ∷ []) ≡ renewed (keptOf service)
 unfolding stepOf emptyOf restartOf answeredOf

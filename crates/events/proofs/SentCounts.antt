@@ -31,15 +31,19 @@ use Rattle.translation.specs.declared.CodeSet.{CodeSet}
 use Rattle.translation.specs.declared.Passed.{Passed}
 use Rattle.translation.specs.declared.Passed.the-variants as passed
 use Rattle.translation.specs.Translation.{translatedOf}
+use Rattle.controller.specs.declared.PortEvent.{PortEvent}
+use Rattle.controller.specs.declared.PortRefusal.{PortRefusal}
+use Rattle.controller.specs.declared.PortRefusal.the-variants.{Busy, Command, Unawaited}
 use Rattle.state.specs.declared.Device.{Device}
 use Rattle.state.specs.declared.Device.the-variants.{Keyboard, Scanner}
 use Rattle.state.specs.declared.Service.{Service}
 use Rattle.events.specs.declared.Event.{Event}
 use Rattle.events.specs.declared.Event.the-variants.{Key, Call, Poll, TimeOut, Empty, Restart, Scan}
+use Rattle.answers.specs.declared.Refusal.the-variants.{Port}
 use Rattle.answers.specs.declared.Answer.{Answer}
-use Rattle.answers.specs.declared.Answer.the-variants.{Taken, Done}
+use Rattle.answers.specs.declared.Answer.the-variants.{Taken, Done, Refused}
 use Rattle.events.specs.declared.Outcome.{Outcome}
-use Rattle.state.specs.State.{newService, portOf, withCodes}
+use Rattle.state.specs.State.{newService, portOf, withCodes, withController}
 use Rattle.answers.specs.Answers.{ansOf}
 use Rattle.events.specs.Outcomes.{answeredOf, offeredOf}
 use Rattle.events.specs.Keyboard.{brokenOf, onEffect, typedOf, readOf, onPassed, keyOf, scanOf}
@@ -48,14 +52,16 @@ use Rattle.events.specs.Functions.{asStored, oldestAnswer, forOldProgram
 use Rattle.events.specs.Step.{emptyOf, stepOf}
 use Rattle.events.specs.Run.{Shown, shownOf, next, run, after}
 use Rattle.events.specs.Sent.{bytesShown, countAt, carriedOn, countsOf, SentIsCounted, SentAtMostSix, ThreeSendsEach}
+use Rattle.events.specs.Controller.{portStepOf}
 use Rattle.events.proofs.Calls.{call-by}
+use Rattle.events.proofs.Controller.{by-response}
 
 -- an event's count is the one before it and the byte that it shows as sent, and goes on with the command
-record Right (service : Service) (outcome : Outcome) : Type 0 where
-  sent : outcome .sent ≡ sentOf (service .line) + bytesShown (shownOf outcome)
-  most : outcome .sent ≤ 6
-  carried : carriedOn (outcome .service .line .phase) (outcome .sent) ≡ sentOf (outcome .service .line)
-  within : Within (outcome .service .line)
+pub record Right (service : Service) (outcome : Outcome) : Type 0 where
+  pub sent : outcome .sent ≡ sentOf (service .line) + bytesShown (shownOf outcome)
+  pub most : outcome .sent ≤ 6
+  pub carried : carriedOn (outcome .service .line .phase) (outcome .sent) ≡ sentOf (outcome .service .line)
+  pub within : Within (outcome .service .line)
 
 -- ---- events of the line
 
@@ -226,6 +232,20 @@ step-counted service Empty w =
     let r = answered-right service _ Done refl w (record { silent = refl }) in record { count = r .sent; most = r .most; carried = r .carried; within = r .within }
 step-counted service Restart w = record { count = refl; most = lit≤ tt; carried = restart-carries; within = new-within }
 step-counted service (Scan byte) w = let r = scan-right service byte w in record { count = r .sent; most = r .most; carried = r .carried; within = r .within }
+
+-- a port event, by the key that it feeds
+pub port-right : (service : Service) (event : PortEvent) → Within (service .line) → Right service (portStepOf service event .outcome)
+unfolding stepOf
+port-right service event w =
+    by-response (Right service) service event
+    (λ _. answered-right service _ _ refl w (record { silent = refl }))
+    (λ controller byte. let r = key-right (withController service controller) byte w in record { sent = r .sent; most = r .most; carried = r .carried; within = r .within })
+    (λ _ refusal. answered-right service _ _ refl w (refused-silent refusal))
+  where
+    refused-silent : (refusal : PortRefusal) → Silent (Refused (Port refusal))
+    refused-silent Busy = record { silent = refl }
+    refused-silent Command = record { silent = refl }
+    refused-silent Unawaited = record { silent = refl }
 
 -- one event of a list, by the count before it
 pub record CountedOn (service : Service) (earlier : ℕ) (event : Event) : Type 0 where

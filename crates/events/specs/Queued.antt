@@ -104,6 +104,7 @@ Fits event (Refused refusal.Delay) words = Unit {0}
 Fits event (Refused refusal.Rate) words = Unit {0}
 Fits event (Refused refusal.Full) words = length words ≡ capacity
 Fits event (Refused (refusal.Frame fault)) words = ⊥
+Fits event (Refused (refusal.Port of-port)) words = ⊥
 
 -- an event does to the words that it found what its answer says
 pub record Listed (service : Service) (event : Event) : Type 0 where

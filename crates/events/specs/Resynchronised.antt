@@ -38,9 +38,13 @@ together (Keyboard ∷ turns) (key ∷ keys) scans = key ∷ together turns keys
 together (Scanner ∷ turns) keys [] = together turns keys []
 together (Scanner ∷ turns) keys (scan ∷ scans) = scan ∷ together turns keys scans
 
--- document 02, W-206: the run at both ports, in any turns, then one E and one R; without turns the keyboard's run is whole before the scanner's
+-- document 02, W-206: the run at both ports, in any turns; without turns the keyboard's run is whole before the scanner's
+abbrev pub allUp : List Device → CodeSet → List Event
+allUp turns set = together turns (runAt Keyboard set) (runAt Scanner set)
+
+-- then one E and one R
 abbrev pub resynchronisation : List Device → CodeSet → List Event
-resynchronisation turns set = together turns (runAt Keyboard set) (runAt Scanner set) ++ (Empty ∷ Restart ∷ [])
+resynchronisation turns set = allUp turns set ++ (Empty ∷ Restart ∷ [])
 
 -- the set in force
 abbrev pub setIn : Service → CodeSet

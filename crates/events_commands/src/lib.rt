@@ -81,11 +81,12 @@ pub fn time_out(service: Service) -> Outcome
     apply(service, line_replies::time_out(line), Answer::Done)
 }
 
-// The line is restarted; the command that it drops shows no count.
+// The line is restarted, and the controller made new; the command that is dropped shows no count.
 pub fn restart(service: Service) -> Outcome
     ensures { λ r. ⌜ r ≡ restartOf service ⌝ }
 {
-    let renewed = state::with_line(service, line::new());
+    let restarted = state::with_line(service, line::new());
+    let renewed = state::with_controller(restarted, controller::new());
     Outcome {
         service: renewed,
         answer: Answer::Done,

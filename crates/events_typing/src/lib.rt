@@ -17,12 +17,14 @@ fn with_ports(service: Service, ports: Ports, shared: Shared) -> Service
     let queue = service.queue;
     let line = service.line;
     let codes = service.codes;
+    let controller = service.controller;
     Service {
         ports,
         shared,
         queue,
         line,
         codes,
+        controller,
     }
 }
 

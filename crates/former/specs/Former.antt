@@ -28,10 +28,14 @@ use Rattle.port.specs.KeyByte.{onEntry, onReading}
 use Rattle.translation.specs.declared.Passed.{Passed}
 use Rattle.translation.specs.declared.Passed.the-variants as passed
 use Rattle.translation.specs.Translation.{translatedOf}
+use Rattle.controller.specs.declared.PortEvent.{PortEvent}
+use Rattle.controller.specs.declared.Response.{Response}
+use Rattle.controller.specs.declared.Response.the-variants as response
+use Rattle.controller.specs.PortEvents.{respondedOf}
 use Rattle.state.specs.declared.Device.{Device}
 use Rattle.state.specs.declared.Device.the-variants.{Keyboard, Scanner}
 use Rattle.state.specs.declared.Service.{Service}
-use Rattle.state.specs.State.{portOf, portsWith, withPorts, withCodes}
+use Rattle.state.specs.State.{portOf, portsWith, withPorts, withCodes, withController}
 use Rattle.answers.specs.declared.Answer.the-variants.{Ignored}
 use Rattle.events.specs.declared.Event.{Event}
 use Rattle.events.specs.declared.Event.the-variants.{Key, Call, Poll, TimeOut, Empty, Restart, Scan}
@@ -42,7 +46,8 @@ use Rattle.events.specs.Commands.{acknowledgeOf, resendOf}
 use Rattle.events.specs.Functions.{asStored, forOldProgram, takeOf, lookOf, callOf}
 use Rattle.events.specs.Step.{stepOf}
 use Rattle.events.specs.Sets.{changeOf}
-use Rattle.lists.specs.EventLaws.{Ran, event, change}
+use Rattle.events.specs.Controller.{onResponse}
+use Rattle.lists.specs.EventLaws.{Ran, event, change, ported}
 
 -- an extended row had the words of the row with its code
 abbrev pub formerRow : ScanCode → Row
@@ -118,8 +123,21 @@ formerStepOf service Empty = stepOf service Empty
 formerStepOf service Restart = stepOf service Restart
 formerStepOf service (Scan byte) = formerScanOf service byte
 
+-- the controller, which came later, feeding these keys
+abbrev pub formerOnResponse : Service → Response → Outcome
+formerOnResponse service response.Accepted = onResponse service response.Accepted
+formerOnResponse service response.Interrupt = onResponse service response.Interrupt
+formerOnResponse service (response.Byte byte) = onResponse service (response.Byte byte)
+formerOnResponse service (response.Key byte) = formerStepOf service (Key byte)
+formerOnResponse service (response.Refused refusal) = onResponse service (response.Refused refusal)
+
+unfoldable pub formerPortStepOf : Service → PortEvent → Outcome
+formerPortStepOf service e =
+    let responded = respondedOf (service .controller) e in formerOnResponse (withController service (responded .controller)) (responded .response)
+
 -- a list of what ran; a change of set did what it does
 abbrev pub formerAfter : Service → List Ran → Service
 formerAfter service [] = service
 formerAfter service (event e ∷ more) = formerAfter (formerStepOf service e .service) more
 formerAfter service (change set ∷ more) = formerAfter (changeOf service set .service) more
+formerAfter service (ported e ∷ more) = formerAfter (formerPortStepOf service e .service) more

@@ -18,7 +18,7 @@ use Rattle.events.specs.declared.Outcome.{Outcome}
 use Rattle.events.specs.Step.{stepOf}
 use Rattle.events.specs.Queued.{isOldRead}
 use Rattle.lists.specs.Items.{Item, afterItems}
-use Rattle.lists.specs.EventLaws.{Ran, event, change, ranOf}
+use Rattle.lists.specs.EventLaws.{Ran, event, change, ported, ranOf}
 use Rattle.former.specs.Former.{formerStepOf, formerAfter}
 
 -- function 05 puts a word that no key put
@@ -35,6 +35,7 @@ abbrev pub NoneStores : List Ran → Type 0
 NoneStores [] = Unit {0}
 NoneStores (event e ∷ more) = (stores e ≡ false) × NoneStores more
 NoneStores (change set ∷ more) = NoneStores more
+NoneStores (ported e ∷ more) = NoneStores more
 
 -- an answer with its word as an old program knows it
 abbrev pub asOldAnswer : Answer → Answer

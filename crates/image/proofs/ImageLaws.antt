@@ -1,15 +1,15 @@
 -- An image is read as a service in range, and a service in range comes back from its image, part by part.
 -- Assumes nothing.
-use Prim.Native.Nat.{ℕ, min, _+_, _*_, _/_, _%_, _<_, _≤_}
+use Prim.Native.Nat.{ℕ, min, _+_, _-_, _*_, _/_, _%_, _<_, _≤_}
 use native.Mathlib.Nat.{div-div-eq-div-mul, mod-eq-of-lt}
 use native.Mathlib.Omega.{arith}
-use mathlib.Core.Path.{_≡_, refl, ap}
+use mathlib.Core.Path.{_≡_, refl, ap, _∙_}
 use mathlib.Core.Bool.{Bool, true, false}
 use mathlib.Core.List.{List, [], _∷_, map}
 use lib.Dec.{eqb, ltb}
-use borrow.Author.Tests.{lt-ltb, ltb-true}
+use borrow.Author.Tests.{lt-ltb, ltb-true, eqb-true, eqb-false, eq-eqb, ne-eqb}
 use Rattle.bits.specs.Choice.{if_then_else_}
-use Rattle.bits.specs.Bits.{weightOf, byteOf}
+use Rattle.bits.specs.Bits.{weightOf, byteOf, bit0}
 use Rattle.bits.proofs.Choice.{by-test, either}
 use Rattle.bits.proofs.Bytes.{digit, Spelt, spelt, digit-read, BitsBack, bits-back, lower-half-raised}
 use Rattle.word.specs.declared.Word.{Word}
@@ -38,6 +38,10 @@ use Rattle.line.specs.Ranges.{ledValues, rateValues, valuesOf, SettingBelow, Co
 use Rattle.translation.specs.declared.CodeSet.{CodeSet}
 use Rattle.translation.specs.declared.Codes.{Codes}
 use Rattle.translation.specs.declared.Codes.the-variants.{SetOne, SetTwo, SetTwoMarked}
+use Rattle.controller.specs.declared.Buffer.{Buffer}
+use Rattle.controller.specs.declared.Buffer.the-variants.{Empty, Key, Answer}
+use Rattle.controller.specs.declared.Controller.{Controller}
+use Rattle.controller.specs.State.{newController}
 use Rattle.state.specs.declared.Service.{Service}
 use Rattle.state.specs.State.{locksOf, newService}
 use Rattle.state.specs.Flags.{e0Open, e1Open, byte17Of, byte18Of, byte96Of, byte97Of as shown97}
@@ -47,11 +51,12 @@ use Rattle.image.specs.declared.QueueImage.{QueueImage}
 use Rattle.image.specs.ImageFlags.{flagBytesOf, modifiersAt, heldAt, sharedAt, prefixNumber, prefixAt, codesNumber, inputNumber, codesAt}
 use Rattle.image.specs.ImageQueue.{wordImage, wordAtImage, headAt, queueImage, queueAt}
 use Rattle.image.specs.ImageLine.{flagOf, isSet, kindNumber, kindAt, settingImage, settingAt, valueIn, commandImage, commandAt, phaseImage, phaseAt, marksAt, lineImage, lineAt}
-use Rattle.image.specs.ImagePort.{sidesNumber, sidesAt, locksHeldNumber, portImage, portAt}
+use Rattle.image.specs.ImagePort.{sidesNumber, sidesAt, locksHeldNumber, portImage, portAt, newPortImage}
+use Rattle.image.specs.ImageController.{turnedOver, bufferNumber, heldIn, bufferAt, controllerImage, controllerAt, newControllerImage}
 use Rattle.image.specs.Image.{imageOf, keyboardAt, serviceOf, newImage}
 use Rattle.image.specs.ImageLaws.{ReadsInRange, ComesBack, MadeAnew}
 
-flag-back : (bit : Bool) → isSet (flagOf bit) ≡ bit
+pub flag-back : (bit : Bool) → isSet (flagOf bit) ≡ bit
 flag-back true = refl
 flag-back false = refl
 
@@ -126,6 +131,36 @@ unfolding portAt portImage locksHeldNumber
 port-back port =
     let held = bits-back (port .held .scroll) (port .held .num) (port .held .caps) false false false false false in
     simp (prefix-back, sides-back, held .at0, held .at1, held .at2, flag-back)
+
+-- the controller
+turned-odd : (command : ℕ) → command % 2 ≡ 1 → turnedOver (command - 1) ≡ command
+unfolding turnedOver if_then_else_
+turned-odd command odd = simp (ne-eqb ((command - 1) % 2) 1 (λ e. omega (arith, odd, e))) (omega (arith, odd))
+
+turned-even : (command : ℕ) → (command % 2 ≡ 1 → ⊥) → turnedOver (command + 1) ≡ command
+unfolding turnedOver if_then_else_
+turned-even command even = simp (eq-eqb ((command + 1) % 2) 1 (omega (arith, even))) (omega arith)
+
+-- what turnedOver is, once
+turned : (command : ℕ) → turnedOver command ≡ (if bit0 command then command - 1 else command + 1)
+unfolding turnedOver
+turned command = refl
+
+pub turned-back : (command : ℕ) → turnedOver (turnedOver command) ≡ command
+turned-back command =
+    ap turnedOver (turned command)
+    ∙ by-test (λ (n : ℕ). turnedOver n ≡ command) (bit0 command) (command - 1) (command + 1)
+    (λ odd. turned-odd command (eqb-true (command % 2) 1 odd)) (λ even. turned-even command (eqb-false (command % 2) 1 even))
+
+buffer-back : (held : Buffer) → bufferAt (bufferNumber held) (heldIn held) ≡ held
+unfolding bufferAt if_then_else_
+buffer-back (Empty last) = refl
+buffer-back (Key byte) = refl
+buffer-back (Answer byte) = refl
+
+pub controller-back : (controller : Controller) → controllerAt (controllerImage controller) ≡ controller
+unfolding controllerAt controllerImage
+controller-back controller = simp (buffer-back, turned-back, flag-back)
 
 odd-part : (number digit rest : ℕ) → number ≡ digit + 2 * rest → digit ≤ 1 → number % 2 ≡ digit
 odd-part number digit rest is most = omega arith
@@ -250,7 +285,7 @@ keyboard-back service = simp (lower-back, half-back, modifiers-back service, hel
 pub comes-back : ComesBack
 unfolding serviceOf imageOf
 comes-back service in-range =
-    simp (keyboard-back service, port-back, upper-back, codes-back, shared-back service, queue-back (service .queue) (in-range .queue), its-line-back service (in-range .line))
+    simp (keyboard-back service, port-back, controller-back, upper-back, codes-back, shared-back service, queue-back (service .queue) (in-range .queue), its-line-back service (in-range .line))
 
 none-set : byteOf false false false false false false false false ≡ 0
 unfolding byteOf weightOf if_then_else_
@@ -261,5 +296,5 @@ unfolding shown97 byte97Of ledRunsOf ledRunsIn newService newLine byteOf weightO
 line-clear set bits = refl
 
 pub made-anew : MadeAnew
-unfolding imageOf newImage byte17Of byte18Of byte96Of queueImage lineImage portImage sidesNumber locksHeldNumber newService locksOf emptyQueue newLine
+unfolding imageOf newImage newPortImage newControllerImage byte17Of byte18Of byte96Of queueImage lineImage portImage sidesNumber locksHeldNumber controllerImage turnedOver newController if_then_else_ newService locksOf emptyQueue newLine
 made-anew set bits = simp (lower-half-raised, none-set, line-clear)

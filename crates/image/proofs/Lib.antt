@@ -1,2 +1,3 @@
 pub mod ImageLaws
+pub mod ControllerNumbers
 pub mod Mapped

@@ -6,10 +6,14 @@ use Rattle.port.specs.declared.Port.{Port}
 use Rattle.queue.specs.Queue.{arrayLength}
 use Rattle.translation.specs.declared.CodeSet.{CodeSet}
 use Rattle.translation.specs.Translation.{unmarkedOf}
+use Rattle.controller.specs.State.{newController}
 use Rattle.state.specs.declared.Service.{Service}
+use Rattle.state.specs.State.{withController}
+use Rattle.image.specs.declared.ControllerImage.{ControllerImage}
 use Rattle.image.specs.declared.Image.{Image}
 use Rattle.image.specs.ImageFlags.{flagBytesOf, modifiersAt, heldAt, sharedAt, prefixNumber, prefixAt, inputNumber, codesAt}
-use Rattle.image.specs.ImagePort.{portImage, portAt}
+use Rattle.image.specs.ImagePort.{portImage, portAt, newPortImage}
+use Rattle.image.specs.ImageController.{controllerImage, controllerAt, newControllerImage}
 use Rattle.image.specs.ImageQueue.{queueImage, queueAt}
 use Rattle.image.specs.ImageLine.{lineImage, lineAt}
 
@@ -22,6 +26,7 @@ imageOf service =
       line = lineImage (service .line);
       queue = queueImage (service .queue);
       scanner = portImage (service .ports .scanner);
+      controller = controllerImage (service .controller);
     }
 
 unfoldable pub keyboardAt : Image → Port
@@ -41,7 +46,12 @@ serviceOf image =
       queue = queueAt (image .queue);
       line = lineAt (image .line) (image .flags .byte97);
       codes = codesAt (image .input / 16);
+      controller = controllerAt (image .controller);
     }
+
+-- the same beside its controller
+unfoldable pub bareServiceOf : Image → Service
+bareServiceOf image = withController (serviceOf image) newController
 
 -- a service newly made on a set with lock bits, of which the last four count
 unfoldable pub newImage : CodeSet → ℕ → Image
@@ -57,8 +67,8 @@ newImage set bits =
             command = record { phase = 0; kind = 0; value = 0; operand = 0; sends = 0; sent = 0 };
           };
       queue = record { words = replicate arrayLength (record { scan = 0; ascii = 0 }); head = 0; count = 0 };
-      scanner =
-          record { prefix = 0; sum = 0; shift = 0; ctrl = 0; alt = 0; locks = 0; insert = 0; sysreq = 0 };
+      scanner = newPortImage;
+      controller = newControllerImage;
     }
 
 -- the image with the codes of a set, unmarked
@@ -71,4 +81,18 @@ onSet set image =
       line = image .line;
       queue = image .queue;
       scanner = image .scanner;
+      controller = image .controller;
+    }
+
+-- the image with another controller
+unfoldable pub onController : ControllerImage → Image → Image
+onController controller image =
+    record {
+      flags = image .flags;
+      input = image .input;
+      sum = image .sum;
+      line = image .line;
+      queue = image .queue;
+      scanner = image .scanner;
+      controller = controller;
     }

@@ -49,3 +49,7 @@ portAt image =
           };
       sum = image .sum;
     }
+
+-- the numbers of a port with no key down
+unfoldable pub newPortImage : PortImage
+newPortImage = record { prefix = 0; sum = 0; shift = 0; ctrl = 0; alt = 0; locks = 0; insert = 0; sysreq = 0 }

@@ -1,6 +1,6 @@
 // The service as numbers only, laid out as C lays out structs, for callers that know no enum: the types, what any such numbers mean, and what
-// holds of them. An image of zeros is a service newly made on set 1 with no lock on. The code is in `image_making`, `image_from_service` and
-// `image_to_service`.
+// holds of them. An image of zeros is a service newly made on set 1 with no lock on. The code is in `image_making`, `image_controller`,
+// `image_from_service` and `image_to_service`.
 
 // The flag bytes as the BIOS data area has them. Read from an image, they are the service's modifiers, held bits, locks, pause and marks; the
 // bits that follow from others (either Ctrl, either Alt, an open prefix, a LED command that runs) and those that have no meaning are not read.
@@ -67,9 +67,22 @@ pub struct PortImage {
     pub sysreq: u8,
 }
 
+// The controller. `buffer` is 0 for empty, 1 for a key, 2 for an answer, and any other number is read as empty; `byte` is what it holds, or where it is
+// empty the byte that was read last. `command` is the command byte with bit 0 turned over, so that 01, which is new, is 0 here. `awaiting` and `commanded` are 0 or 1, and any
+// other number is read as 1. `spare` is zeros and not read.
+#[repr(C)]
+pub struct ControllerImage {
+    pub buffer: u8,
+    pub byte: u8,
+    pub command: u8,
+    pub awaiting: u8,
+    pub commanded: u8,
+    pub spare: [u8; 3],
+}
+
 // `input` says how the next keyboard byte is read. Its lower half is the open prefix: 0 for none, 1 for E0, 2 for E1, 3 for E1 1D, 4 for E1 9D, and
 // any other number is read as none. Its upper half is the codes that come: 0 for set 1, 1 for set 2, 2 for set 2 with the next code marked as a
-// break, and any other number is read as set 1. `sum` is the keyboard's Alt sum. 72 bytes, none of
+// break, and any other number is read as set 1. `sum` is the keyboard's Alt sum. 80 bytes, none of
 // them padding.
 #[repr(C)]
 pub struct Image {
@@ -79,4 +92,5 @@ pub struct Image {
     pub line: LineImage,
     pub queue: QueueImage,
     pub scanner: PortImage,
+    pub controller: ControllerImage,
 }

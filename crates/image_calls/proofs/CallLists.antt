@@ -15,6 +15,8 @@ use Rattle.frame.specs.declared.Reading.{Reading}
 use Rattle.frame.specs.declared.Reading.the-variants as reading
 use Rattle.frame.specs.Frame.{readFrame, faultNumber}
 use Rattle.translation.specs.declared.CodeSet.{CodeSet}
+use Rattle.controller.specs.declared.PortEvent.{PortEvent}
+use Rattle.controller.specs.PortEvents.{interruptIn, isKeyIn}
 use Rattle.state.specs.declared.Service.{Service}
 use Rattle.state.specs.State.{newService, makeOf}
 use Rattle.state.specs.Flags.{byte17Of}
@@ -24,26 +26,29 @@ use Rattle.events.specs.declared.Outcome.{Outcome}
 use Rattle.events.specs.Outcomes.{answeredOf}
 use Rattle.events.specs.Step.{stepOf}
 use Rattle.events.specs.Sets.{changeOf}
-use Rattle.events.specs.Run.{Shown, next}
+use Rattle.events.specs.Controller.{portStepOf}
+use Rattle.events.specs.Run.{Shown, shownOf, next}
 use Rattle.events.specs.Resynchronised.{setIn, standingLocks, remade}
 use Rattle.events.proofs.RefusedCalls.{refused-step}
+use Rattle.events.proofs.Controller.{refused-port}
 use Rattle.events.proofs.Ranges.{stays-in-range}
 use Rattle.report.specs.declared.Reported.{Reported}
 use Rattle.report.specs.Report.{reportOf}
 use Rattle.report.specs.Reported.{tooShort, reportedOf}
-use Rattle.lists.specs.Items.{Item, runs, reports, receives, changes, Seen, Stepped, answered, stepItem, afterItems, seenItems, shownIn}
-use Rattle.lists.specs.ItemLaws.{refusedFrameStep}
+use Rattle.lists.specs.Items.{Item, runs, reports, receives, changes, atPort, Seen, Stepped, noPort, statusIn, answered, stepItem, afterItems, seenItems, shownIn}
+use Rattle.lists.specs.ItemLaws.{turnedAway}
 use Rattle.lists.proofs.ItemLaws.{accepted-is-key, refused-runs-nothing}
 use Rattle.lists.proofs.EventLaws.{sent-over-items}
 use Rattle.lists.proofs.Demand3.{demand-3}
 use Rattle.image.specs.declared.Image.{Image}
 use Rattle.image.specs.Image.{imageOf, serviceOf}
-use Rattle.image.proofs.ImageLaws.{reads-in-range, comes-back}
+use Rattle.image.proofs.ImageLaws.{flag-back, reads-in-range, comes-back}
 use Rattle.image_calls.specs.declared.Changed.{Changed}
 use Rattle.image_calls.specs.declared.Refused.{Refused}
 use Rattle.image_calls.specs.Exports.{shownToC, stepIn, refusedIn, framedIn, triedIn, makeTo, changeTo}
-use Rattle.image_calls.specs.CallLists.{Called, answeredBy, callOn, afterCalls, seenCalls, Follows, ImagesFollow, made, ImagesForget, ImagesCount}
-use Rattle.image_calls.proofs.Events.{step-shows, tried-by}
+use Rattle.image_calls.specs.PortCalls.{portTo}
+use Rattle.image_calls.specs.CallLists.{Called, statusAt, answeredBy, callOn, afterCalls, seenCalls, Follows, ImagesFollow, made, ImagesForget, ImagesCount}
+use Rattle.image_calls.proofs.Events.{outcome-shows, step-shows, tried-by}
 use Rattle.image_calls.proofs.ExportLaws.{tags-recognised}
 
 -- ---- one call
@@ -83,9 +88,16 @@ record Alike (stepped : Stepped) (called : Called) : Type 0 where
 
 event-alike : (image : Image) (event : Event) → Alike (stepItem (serviceOf image) (runs event)) (answeredBy (stepIn image event))
 unfolding stepItem
-event-alike image event = record { leaves = step-leaves image event; shows = ap answered (step-shows image event) }
+event-alike image event =
+    let leaves = step-leaves image event in
+    record {
+      leaves = leaves;
+      shows =
+          ap (λ (shown : Shown). answered shown noPort (statusAt (stepIn image event .image))) (step-shows image event)
+          ∙ ap (λ (s : Service). answered (shownOf (stepOf (serviceOf image) event)) noPort (statusIn s)) leaves;
+    }
 
-refused-alike : (image : Image) (fault : Fault) → Alike (refusedFrameStep (serviceOf image) fault) (answeredBy (refusedIn image (faultNumber fault)))
+refused-alike : (image : Image) (fault : Fault) → Alike (turnedAway (serviceOf image) (faultNumber fault)) (answeredBy (refusedIn image (faultNumber fault)))
 unfolding refusedIn
 refused-alike image Start = record { leaves = refl; shows = refl }
 refused-alike image Parity = record { leaves = refl; shows = refl }
@@ -99,17 +111,37 @@ frame-alike image frame (reading.Refused fault) is = rw (refused-runs-nothing (s
 change-alike : (image : Image) (set : CodeSet) → Alike (stepItem (serviceOf image) (changes set)) (answeredBy (changeTo set image))
 unfolding stepItem changeOf answeredOf shownToC if_then_else_
 change-alike image set =
-    record { leaves = comes-back _ (stays-in-range .change (serviceOf image) set (reads-in-range image)); shows = refl }
+    let leaves = comes-back _ (stays-in-range .change (serviceOf image) set (reads-in-range image)) in
+    record { leaves = leaves; shows = ap (λ (s : Service). answered (shownOf (changeOf (serviceOf image) set)) noPort (statusIn s)) leaves }
+
+port-leaves : (image : Image) (event : PortEvent) → serviceOf (portTo image event .image) ≡ portStepOf (serviceOf image) event .outcome .service
+unfolding portTo shownToC
+port-leaves image event =
+    let left = portStepOf (serviceOf image) event .outcome .service in
+    by-test (λ (changed : Changed). serviceOf (changed .image) ≡ left) _ _ _
+    (λ refused. sym (refused-port (serviceOf image) event refused))
+    (λ _. comes-back left (stays-in-range .port (serviceOf image) event (reads-in-range image)))
+
+port-alike : (image : Image) (event : PortEvent) → Alike (stepItem (serviceOf image) (atPort event)) (callOn image (atPort event))
+unfolding stepItem portTo
+port-alike image event =
+    let step = portStepOf (serviceOf image) event in
+    record {
+      leaves = port-leaves image event;
+      shows = rw (outcome-shows image (step .outcome), flag-back (interruptIn (step .response)), flag-back (isKeyIn (step .response)));
+    }
 
 alike : (image : Image) (item : Item) → Alike (stepItem (serviceOf image) item) (callOn image item)
 unfolding stepItem
 alike image (runs event) = rw (tags-recognised event) (event-alike image event)
 alike image (reports event buffer) =
     let told = reportedOf (serviceOf image) event buffer in
+    let leaves = report-leaves image event buffer in
     rw (tags-recognised event)
-    (record { leaves = report-leaves image event buffer; shows = rw (report-refuses image (told .refusal) (told .service), step-shows image event) })
+    (record { leaves = leaves; shows = rw (report-refuses image (told .refusal) (told .service), step-shows image event, leaves) })
 alike image (receives frame) = frame-alike image frame (readFrame frame) refl
 alike image (changes set) = change-alike image set
+alike image (atPort event) = port-alike image event
 
 -- ---- lists
 
@@ -153,12 +185,13 @@ module _ (set : CodeSet) (image : Image) (locks : ℕ) (most : locks ≤ 15) whe
   seen-made items = images-follow (made set image locks) items .shown ∙ ap (λ (s : Service). seenItems s items) (made-new set image locks most)
 
 pub images-forget : ImagesForget
-images-forget turns image other set locks most first settling further ran =
+images-forget turns image other set locks most first settling typing further ran typed =
     let settled = afterCalls (made set image locks) (first ++ settling) in
     let service = afterItems (newService set locks) (first ++ settling) in
     let is : serviceOf settled ≡ service = after-made set image locks most (first ++ settling) in
     let alike : seenItems service further ≡ seenItems (remade service) further =
-    demand-3 turns set locks most first settling further (rw (after-made set image locks most first) at ran) in
+    demand-3 turns set locks most first settling typing further
+    (rw (after-made set image locks most first) at ran) (rw (after-made set image locks most first) at typed) in
     images-follow settled further .shown
     ∙ ap (λ (s : Service). seenItems s further) is
     ∙ alike

@@ -13,7 +13,8 @@ use Rattle.frame.specs.declared.Fault.the-variants.{Start, Parity, Stop}
 use Rattle.answers.specs.declared.Refusal.the-variants as refusal
 use Rattle.answers.specs.declared.Answer.{Answer}
 use Rattle.answers.specs.declared.Answer.the-variants as answer
-use Rattle.answers.specs.Answers.{ansOf}
+use Rattle.answers.specs.Answers.{ansOf, wordOf}
+use Rattle.controller.specs.declared.PortRefusal.the-variants.{Busy, Command, Unawaited}
 use Rattle.state.specs.declared.Service.{Service}
 use Rattle.events.specs.declared.Event.{Event}
 use Rattle.events.specs.declared.Outcome.{Outcome}
@@ -26,8 +27,7 @@ use Rattle.report.specs.Report.{reportFrom, reportOf}
 use Rattle.report.specs.Reported.{reportLength, refusalIn, writtenOf, bufferOf}
 use Rattle.report.proofs.BufferLaws.{short-refused, long-reported}
 use Rattle.image.specs.declared.Image.{Image}
-use Rattle.image.specs.ImageFlags.{flagBytesOf}
-use Rattle.image.specs.Image.{imageOf, serviceOf}
+use Rattle.image.specs.Image.{imageOf, serviceOf, bareServiceOf}
 use Rattle.image_calls.specs.declared.Shown.{Shown}
 use Rattle.image_calls.specs.declared.Tagged.{Tagged}
 use Rattle.image_calls.specs.declared.Ran.{Ran}
@@ -35,44 +35,65 @@ use Rattle.image_calls.specs.declared.Changed.{Changed}
 use Rattle.image_calls.specs.declared.Refused.{Refused}
 use Rattle.image_calls.specs.declared.Recognised.{Recognised}
 use Rattle.image_calls.specs.declared.Recognised.the-variants as recognised-as
-use Rattle.image_calls.specs.Exports.{shownWith, seen, shownToC, changedBy, stepIn, refusedIn, recognised, isUnknown, ranOf, taggedIn, triedIn, reportedAs, writtenAs}
+use Rattle.image_calls.specs.Exports.{shownWith, seen, shownToC, changedBy, stepIn, refusedIn, recognised, isUnknown, eventRun, ansIn, ranOf, taggedIn, triedIn, reportedAs, writtenAs}
+use Rattle.image_calls.proofs.Beside.{leftOn, on-image}
 
 -- ---- an event
 
--- what the code makes of an event as it ran
-abbrev made : Image → Ran → Changed
-made image ran =
-    let shown = shownWith (flagBytesOf (ran .service)) (ran .ans) (ran .word) (ran .sent) in
-    if ltb 0x7F (ran .ans) then record { image = image; shown = shown } else record { image = imageOf (ran .service); shown = shown }
+-- what the code makes of the image that an event left
+abbrev told : Image → Image → ℕ → ℕ → ℕ → Changed
+told image left ans word sent =
+    let shown = shownWith (left .flags) ans word sent in
+    if ltb 0x7F ans then record { image = image; shown = shown } else record { image = left; shown = shown }
 
-made-tagged : (image : Image) (event : Recognised) → made image (ranOf (serviceOf image) event) ≡ taggedIn image event
-unfolding refusedIn stepIn shownToC stepOf callOf answeredOf if_then_else_
-made-tagged image recognised-as.Unknown = refl
-made-tagged image (recognised-as.Event event) = refl
+told-tagged : (image : Image) (event : Recognised) →
+    let ran = ranOf (serviceOf image) event in told image (imageOf (ran .service)) (ran .ans) (ran .word) (ran .sent) ≡ taggedIn image event
+unfolding imageOf refusedIn stepIn shownToC stepOf callOf answeredOf if_then_else_
+told-tagged image recognised-as.Unknown = refl
+told-tagged image (recognised-as.Event event) = refl
 
--- the flag bytes are shown as the image of the service after the event has them
-module _ (image : Image) (event : Recognised) (ran : Ran) (is : ran ≡ ranOf (serviceOf image) event) where
+module _ (image : Image) (event : Recognised) (ran : Ran) (is : ran ≡ ranOf (bareServiceOf image) event) where
+  abbrev left : Image
+  left = leftOn image (eventRun event) (ran .service)
+
   abbrev shownBy : Shown
-  shownBy = shownWith (imageOf (ran .service) .flags) (ran .ans) (ran .word) (ran .sent)
+  shownBy = shownWith (left .flags) (ran .ans) (ran .word) (ran .sent)
+
+  as-told : told image left (ran .ans) (ran .word) (ran .sent) ≡ taggedIn image event
+  as-told =
+      let run = eventRun event in
+      let beside = stepOf (bareServiceOf image) run in
+      let here = stepOf (serviceOf image) run in
+      let same = on-image image run in
+      let unknown = isUnknown event in
+      ap (λ (r : Ran). told image (leftOn image run (r .service)) (r .ans) (r .word) (r .sent)) is
+      ∙ ap (λ (l : Image). told image l (ansIn (beside .answer) unknown) (wordOf (beside .answer)) (beside .sent)) (same .left)
+      ∙ ap (λ (a : Answer). told image (imageOf (here .service)) (ansIn a unknown) (wordOf a) (beside .sent)) (same .answer)
+      ∙ ap (λ (n : ℕ). told image (imageOf (here .service)) (ansIn (here .answer) unknown) (wordOf (here .answer)) n) (same .sent)
+      ∙ told-tagged image event
 
   pub refused-event : 0x7F < ran .ans → record { image = image; shown = shownBy } ≡ taggedIn image event
-  unfolding imageOf if_then_else_
+  unfolding if_then_else_
   refused-event h =
-      let found : record { image = image; shown = shownBy } ≡ made image ran = simp (lt-ltb 0x7F (ran .ans) h) in
-      found ∙ ap (made image) is ∙ made-tagged image event
+      let found : record { image = image; shown = shownBy } ≡ told image left (ran .ans) (ran .word) (ran .sent) = simp (lt-ltb 0x7F (ran .ans) h) in
+      found ∙ as-told
 
-  pub accepted-event : ran .ans ≤ 0x7F → record { image = imageOf (ran .service); shown = shownBy } ≡ taggedIn image event
-  unfolding imageOf if_then_else_
+  pub accepted-event : ran .ans ≤ 0x7F → record { image = left; shown = shownBy } ≡ taggedIn image event
+  unfolding if_then_else_
   accepted-event h =
-      let found : record { image = imageOf (ran .service); shown = shownBy } ≡ made image ran = simp (le-ltb 0x7F (ran .ans) h) in
-      found ∙ ap (made image) is ∙ made-tagged image event
+      let found : record { image = left; shown = shownBy } ≡ told image left (ran .ans) (ran .word) (ran .sent) = simp (le-ltb 0x7F (ran .ans) h) in
+      found ∙ as-told
 
 -- ---- a report
 
 -- an event shows the same whether or not it changed its image
+pub outcome-shows : (image : Image) (outcome : Outcome) → seen (changedBy image outcome .shown) ≡ shownOf outcome
+unfolding shownToC
+outcome-shows image outcome = either (λ (changed : Changed). seen (changed .shown) ≡ shownOf outcome) _ _ _ refl refl
+
 pub step-shows : (image : Image) (event : Event) → seen (stepIn image event .shown) ≡ shownOf (stepOf (serviceOf image) event)
-unfolding stepIn shownToC
-step-shows image event = either (λ (changed : Changed). seen (changed .shown) ≡ shownOf (stepOf (serviceOf image) event)) _ _ _ refl refl
+unfolding stepIn
+step-shows image event = outcome-shows image (stepOf (serviceOf image) event)
 
 -- the image and the number that an outcome leaves, by its answer
 abbrev pub leftBy : Image → Outcome → Refused
@@ -104,6 +125,9 @@ tried-by image after sent (answer.Refused refusal.Full) = refl
 tried-by image after sent (answer.Refused (refusal.Frame Start)) = refl
 tried-by image after sent (answer.Refused (refusal.Frame Parity)) = refl
 tried-by image after sent (answer.Refused (refusal.Frame Stop)) = refl
+tried-by image after sent (answer.Refused (refusal.Port Busy)) = refl
+tried-by image after sent (answer.Refused (refusal.Port Command)) = refl
+tried-by image after sent (answer.Refused (refusal.Port Unawaited)) = refl
 
 -- the tag that was recognised is the tag of the event
 abbrev Named : Tagged → Recognised → Type 0

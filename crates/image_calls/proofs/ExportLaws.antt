@@ -14,12 +14,14 @@ use Rattle.frame.specs.declared.Reading.{Reading}
 use Rattle.frame.specs.declared.Reading.the-variants as reading
 use Rattle.frame.specs.Frame.{readFrame}
 use Rattle.translation.specs.declared.CodeSet.{CodeSet}
+use Rattle.controller.specs.declared.PortEvent.{PortEvent}
 use Rattle.state.specs.declared.Service.{Service}
 use Rattle.events.specs.declared.Event.{Event}
 use Rattle.events.specs.declared.Event.the-variants.{Key, Call, Poll, TimeOut, Empty, Restart, Scan}
 use Rattle.events.specs.declared.Outcome.{Outcome}
 use Rattle.state.specs.State.{makeOf}
 use Rattle.events.specs.Step.{stepOf}
+use Rattle.events.specs.Controller.{portStepOf}
 use Rattle.report.specs.Reported.{reportLength}
 use Rattle.report.proofs.BufferLaws.{short-refused}
 use Rattle.image.specs.declared.Image.{Image}
@@ -28,7 +30,8 @@ use Rattle.image_calls.specs.declared.Recognised.the-variants as recogni
 use Rattle.image_calls.specs.declared.Changed.{Changed}
 use Rattle.image_calls.specs.declared.Refused.{Refused}
 use Rattle.image.specs.Image.{imageOf, serviceOf}
-use Rattle.image_calls.specs.Exports.{shownToC, stepIn, refusedIn, recognised, taggedIn, framedIn, triedIn, reportedAs, writtenAs, makeTo}
+use Rattle.image_calls.specs.Exports.{shownToC, changedBy, stepIn, refusedIn, recognised, taggedIn, framedIn, triedIn, reportedAs, writtenAs, makeTo}
+use Rattle.image_calls.specs.PortCalls.{portTo}
 use Rattle.image_calls.specs.ExportLaws.{TagsRecognised, Leaves, UnknownRefused}
 
 pub tags-recognised : TagsRecognised
@@ -43,13 +46,19 @@ tags-recognised (Scan byte) = refl
 
 -- ---- what a refusal leaves
 
-step-leaves : (image : Image) (event : Event) → ltb 0x7F (stepIn image event .shown .ans) ≡ true → stepIn image event .image ≡ image
-unfolding stepIn
-step-leaves image event =
-    let outcome : Outcome = stepOf (serviceOf image) event in
+outcome-leaves : (image : Image) (outcome : Outcome) → ltb 0x7F (changedBy image outcome .shown .ans) ≡ true → changedBy image outcome .image ≡ image
+outcome-leaves image outcome =
     by-test (λ (changed : Changed). ltb 0x7F (changed .shown .ans) ≡ true → changed .image ≡ image) (ltb 0x7F (shownToC outcome .ans))
     (record { image = image; shown = shownToC outcome }) (record { image = imageOf (outcome .service); shown = shownToC outcome })
     (λ _ _. refl) (λ accepted refused. absurd (true≢false (sym refused ∙ accepted)))
+
+step-leaves : (image : Image) (event : Event) → ltb 0x7F (stepIn image event .shown .ans) ≡ true → stepIn image event .image ≡ image
+unfolding stepIn
+step-leaves image event = outcome-leaves image (stepOf (serviceOf image) event)
+
+port-leaves : (image : Image) (event : PortEvent) → ltb 0x7F (portTo image event .shown .shown .ans) ≡ true → portTo image event .image ≡ image
+unfolding portTo
+port-leaves image event = outcome-leaves image (portStepOf (serviceOf image) event .outcome)
 
 tagged-leaves : (image : Image) (event : Recognised) → ltb 0x7F (taggedIn image event .shown .ans) ≡ true → taggedIn image event .image ≡ image
 unfolding refusedIn
@@ -83,6 +92,7 @@ leaves = record {
   make = make-leaves;
   event = λ image tagged. tagged-leaves image (recognised tagged);
   frame = λ image frame. framed-leaves image (readFrame frame);
+  port = port-leaves;
   report = λ image tagged. report-leaves image (recognised tagged);
   short = λ image tagged. short-leaves image (recognised tagged);
 }

@@ -1,4 +1,4 @@
--- Lists of calls on an image that C keeps, events, reported events, frames and changes of set in any order. CallLists.antt of proofs/ proves each sentence.
+-- Lists of calls on an image that C keeps, events, reported events, frames, changes of set and port events in any order. CallLists.antt of proofs/ proves each sentence.
 -- Assumes nothing.
 use Prim.Native.Nat.{ℕ, _/_, _≤_}
 use mathlib.Core.Path.{_≡_}
@@ -7,21 +7,33 @@ use Rattle.translation.specs.declared.CodeSet.{CodeSet}
 use Rattle.state.specs.declared.Device.{Device}
 use Rattle.state.specs.State.{newService}
 use Rattle.events.specs.Run.{Shown}
-use Rattle.events.specs.Resynchronised.{resynchronisation, setIn}
-use Rattle.lists.specs.Items.{Item, runs, reports, receives, changes, Seen, answered, whereRan, afterItems, ranItems, seenItems, shownIn}
+use Rattle.events.specs.declared.Event.the-variants.{Empty, Restart}
+use Rattle.events.specs.Resynchronised.{allUp, setIn}
+use Rattle.lists.specs.Items.{Item, runs, reports, receives, changes, atPort, PortSeen, Seen, noPort, statusIn, answered, whereRan, afterItems, ranItems, seenItems, shownIn}
+use Rattle.lists.specs.Controller.{typedItems}
 use Rattle.lists.specs.EventLaws.{ranOf, countsOver}
 use Rattle.image.specs.declared.Image.{Image}
+use Rattle.image.specs.ImageLine.{isSet}
 use Rattle.image.specs.Image.{serviceOf}
 use Rattle.image_calls.specs.declared.Changed.{Changed}
+use Rattle.image_calls.specs.declared.PortShown.{PortShown}
 use Rattle.image_calls.specs.Exports.{seen, written, eventTo, frameTo, makeTo, changeTo, reportTo, writtenTo, flagsTo}
+use Rattle.image_calls.specs.PortCalls.{portTo}
 
 -- an item of a list as the call for C that it is: what the image is after it, and what is seen
 pub record Called : Type 0 where
   pub image : Image
   pub seen : Seen
 
+-- the status that a read of 64 would give
+abbrev pub statusAt : Image → ℕ
+statusAt image = statusIn (serviceOf image)
+
 abbrev pub answeredBy : Changed → Called
-answeredBy changed = record { image = changed .image; seen = answered (seen (changed .shown)) }
+answeredBy changed = record { image = changed .image; seen = answered (seen (changed .shown)) noPort (statusAt (changed .image)) }
+
+abbrev pub seenAtPort : PortShown → PortSeen
+seenAtPort shown = record { byte = shown .byte; interrupt = isSet (shown .interrupt); fed = isSet (shown .fed) }
 
 abbrev pub callOn : Image → Item → Called
 callOn image (runs event) = answeredBy (eventTo image (written event))
@@ -34,10 +46,15 @@ callOn image (reports event buffer) =
             shown = whereRan (told .refusal) (seen (eventTo image (written event) .shown) ∷ []);
             refusal = told .refusal;
             buffer = writtenTo image (written event) buffer;
+            port = noPort;
+            status = statusAt (told .image);
           };
     }
 callOn image (receives frame) = answeredBy (frameTo image frame)
 callOn image (changes set) = answeredBy (changeTo set image)
+callOn image (atPort event) =
+    let called = portTo image event in
+    record { image = called .image; seen = answered (seen (called .shown .shown)) (seenAtPort (called .shown)) (called .shown .status) }
 
 abbrev pub afterCalls : Image → List Item → Image
 afterCalls image [] = image
@@ -64,13 +81,15 @@ made set image locks = makeTo set image locks .image
 abbrev pub setTo : Image → CodeSet
 setTo image = setIn (serviceOf image)
 
--- Demand 3 of images: any calls, the all-up run at both ports in any turns, E and R, and any further calls, with bytes as events or frames, and
--- refused reports and frames anywhere; the further calls are seen as on an image made on that set with the lock bits that stand
+-- Demand 3 of images: any calls, the all-up run at both ports in any turns, E and R, and any further calls, with bytes as events, as frames or through
+-- port 60, port events anywhere up to R, and refused reports and frames anywhere; the further calls are seen as on an image made on that set with the
+-- lock bits that stand
 abbrev pub ImagesForget : Type 0
 ImagesForget =
-    (turns : List Device) (image other : Image) (set : CodeSet) (locks : ℕ) → locks ≤ 15 → (first settling further : List Item) →
+    (turns : List Device) (image other : Image) (set : CodeSet) (locks : ℕ) → locks ≤ 15 → (first settling typing further : List Item) →
     let begun = afterCalls (made set image locks) first in
-    ranItems (serviceOf begun) settling ≡ map runs (resynchronisation turns (setTo begun)) →
+    ranItems (serviceOf begun) settling ≡ typing ++ (runs Restart ∷ []) →
+    typedItems (serviceOf begun) typing ≡ map runs (allUp turns (setTo begun) ++ (Empty ∷ [])) →
     let settled = afterCalls (made set image locks) (first ++ settling) in
     seenCalls settled further ≡ seenCalls (made (setTo settled) other (flagsTo settled .byte17 / 16)) further
 

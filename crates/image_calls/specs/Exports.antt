@@ -17,17 +17,20 @@ use Rattle.events.specs.declared.Event.the-variants.{Key, Call, Poll, TimeOut, 
 use Rattle.events.specs.declared.Outcome.{Outcome}
 use Rattle.state.specs.State.{makeOf}
 use Rattle.answers.specs.declared.Answer.{Answer}
-use Rattle.answers.specs.declared.Answer.the-variants.{Done}
+use Rattle.answers.specs.declared.Answer.the-variants.{Nothing, Done}
 use Rattle.answers.specs.Answers.{ansOf, wordOf}
 use Rattle.events.specs.Tags.{keyTag, callTag, pollTag, timeOutTag, emptyTag, restartTag, scanTag, tagOf}
 use Rattle.events.specs.Run.{Shown as Seen, after}
 use Rattle.events.specs.Step.{stepOf}
 use Rattle.events.specs.Sets.{changeOf}
+use Rattle.events.specs.ControllerLaws.{isRestart}
 use Rattle.events.specs.Resynchronised.{resynchronisation, setIn}
 use Rattle.report.specs.Reported.{reportedOf, bufferOf}
+use Rattle.image.specs.declared.ControllerImage.{ControllerImage}
 use Rattle.image.specs.declared.FlagBytes.{FlagBytes}
 use Rattle.image.specs.declared.Image.{Image}
 use Rattle.image.specs.ImageFlags.{flagBytesOf}
+use Rattle.image.specs.ImageController.{controllerImage, controllerAt, newControllerImage}
 use Rattle.image_calls.specs.declared.Shown.{Shown}
 use Rattle.image_calls.specs.declared.Tagged.{Tagged}
 use Rattle.image_calls.specs.declared.Recognised.{Recognised}
@@ -76,6 +79,10 @@ withAnswer shown ans =
       byte97 = shown .byte97;
     }
 
+-- what a call left, with nothing to tell
+abbrev pub answeredNothing : Changed → Changed
+answeredNothing changed = record { image = changed .image; shown = withAnswer (changed .shown) (ansOf Nothing) }
+
 unfoldable pub shownToC : Outcome → Shown
 shownToC outcome = shownWith (flagBytesOf (outcome .service)) (ansOf (outcome .answer)) (wordOf (outcome .answer)) (outcome .sent)
 
@@ -84,6 +91,10 @@ abbrev pub changedBy : Image → Outcome → Changed
 changedBy image outcome =
     if ltb 0x7F (shownToC outcome .ans) then record { image = image; shown = shownToC outcome }
     else record { image = imageOf (outcome .service); shown = shownToC outcome }
+
+-- the controller's numbers after an event: as they are read, and new after R
+abbrev pub controllerAfter : Event → ControllerImage → ControllerImage
+controllerAfter event controller = if isRestart event then newControllerImage else controllerImage (controllerAt controller)
 
 unfoldable pub stepIn : Image → Event → Changed
 stepIn image event = changedBy image (stepOf (serviceOf image) event)

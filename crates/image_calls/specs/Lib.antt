@@ -1,4 +1,5 @@
 pub mod Exports
+pub mod PortCalls
 pub mod Reads
 pub mod ReadLaws
 pub mod ExportLaws

@@ -16,6 +16,17 @@ pub struct Shown {
     pub byte97: u8,
 }
 
+// What is seen of a port event: what is seen of any event, with the key that it feeds among it; the byte read, 0 where none is; the status after it;
+// and, as 0 or 1, whether interrupt 1 is raised and whether the byte was fed.
+#[repr(C)]
+pub struct PortShown {
+    pub shown: Shown,
+    pub byte: u8,
+    pub status: u8,
+    pub interrupt: u8,
+    pub fed: u8,
+}
+
 // An event as a pack writes it: its capital and up to three bytes.
 #[repr(C)]
 pub struct Tagged {
@@ -41,6 +52,11 @@ pub struct Ran {
 pub struct Changed {
     pub image: Image,
     pub shown: Shown,
+}
+
+pub struct PortChanged {
+    pub image: Image,
+    pub shown: PortShown,
 }
 
 pub struct Refused {

@@ -1,8 +1,10 @@
 // An event on an image, by value. A refused event leaves every number of the image.
 ghost use mathlib.Core.Path.{_≡_};
-ghost use Rattle.image_calls.specs.Exports.{shownWith, eventRun, ansIn, ranOf, eventTo};
+ghost use Rattle.image_calls.specs.Exports.{shownWith, controllerAfter, eventRun, ansIn, ranOf, eventTo};
+ghost use Rattle.events.specs.ControllerLaws.{isRestart};
 use answers::Answer;
 use events::Event;
+use image::ControllerImage;
 use image::FlagBytes;
 use image::Image;
 use image_calls::Changed;
@@ -59,6 +61,30 @@ fn run(service: Service, event: Recognised) -> Ran
     }
 }
 
+fn is_restart(event: Event) -> bool
+    ensures { λ r. ⌜ r ≡ isRestart event ⌝ }
+{
+    match event {
+        Event::Key(_) => false,
+        Event::Call(_, _, _) => false,
+        Event::Poll => false,
+        Event::TimeOut => false,
+        Event::Empty => false,
+        Event::Restart => true,
+        Event::Scan(_) => false,
+    }
+}
+
+// The controller's numbers after an event, which looks at none of them.
+fn controller_after(event: Event, controller: ControllerImage) -> ControllerImage
+    ensures { λ r. ⌜ r ≡ controllerAfter event controller ⌝ }
+{
+    if is_restart(event) {
+        return image_controller::new();
+    }
+    image_controller::in_range(controller)
+}
+
 // The parts of this function are called from here only, where the compiler puts their code: a service that is passed on in memory costs
 // more than all that an event does.
 pub fn event(image: Image, tagged: Tagged) -> Changed
@@ -68,7 +94,8 @@ pub fn event(image: Image, tagged: Tagged) -> Changed
     let event = image_reading::recognise(tagged);
     let ran = run(service, event);
     let after = ran.service;
-    let next = image_from_service::image_of(after);
+    let controller = controller_after(event_in(event), image.controller);
+    let next = image_from_service::image_of(after, controller);
     let flags = next.flags;
     let shown = shown_with(flags, ran.ans, ran.word, ran.sent);
     if 0x7F < shown.ans {

@@ -1,6 +1,7 @@
 // Services to images.
 ghost use mathlib.Core.Path.{_≡_};
-ghost use Rattle.image.specs.Image.{imageOf};
+ghost use Rattle.image.specs.Image.{imageOf, onController};
+use image::ControllerImage;
 use image::Image;
 use state::Service;
 
@@ -9,8 +10,9 @@ mod line_part;
 mod port_part;
 mod queue_part;
 
-pub fn image_of(service: Service) -> Image
-    ensures { λ r. ⌜ r ≡ imageOf service ⌝ }
+// The controller's numbers are handed over: no event makes them of the service.
+pub fn image_of(service: Service, controller: ControllerImage) -> Image
+    ensures { λ r. ⌜ r ≡ onController controller (imageOf service) ⌝ }
 {
     let keyboard = service.ports.keyboard;
     let scanner = service.ports.scanner;
@@ -25,5 +27,6 @@ pub fn image_of(service: Service) -> Image
         line: line_part::image_of(line),
         queue: queue_part::image_of(queue),
         scanner: port_part::image_of(scanner),
+        controller,
     }
 }

@@ -4,6 +4,7 @@ ghost use Prim.Native.Nat.{_/_};
 ghost use Rattle.translation.specs.Translation.{setOf};
 ghost use Rattle.image.specs.Image.{newImage, onSet};
 ghost use Rattle.image.specs.ImageFlags.{inputNumber, codesAt};
+ghost use Rattle.image.specs.ImagePort.{newPortImage};
 use image::CommandImage;
 use image::FlagBytes;
 use image::Image;
@@ -33,6 +34,21 @@ pub fn codes_of(number: u8) -> Codes
         1 => Codes::SetTwo,
         2 => Codes::SetTwoMarked,
         _ => Codes::SetOne,
+    }
+}
+
+fn no_key_down() -> PortImage
+    ensures { λ r. ⌜ r ≡ newPortImage ⌝ }
+{
+    PortImage {
+        prefix: 0,
+        sum: 0,
+        shift: 0,
+        ctrl: 0,
+        alt: 0,
+        locks: 0,
+        insert: 0,
+        sysreq: 0,
     }
 }
 
@@ -67,16 +83,8 @@ pub fn new(set: CodeSet, bits: u8) -> Image
             head: 0,
             count: 0,
         },
-        scanner: PortImage {
-            prefix: 0,
-            sum: 0,
-            shift: 0,
-            ctrl: 0,
-            alt: 0,
-            locks: 0,
-            insert: 0,
-            sysreq: 0,
-        },
+        scanner: no_key_down(),
+        controller: image_controller::new(),
     }
 }
 

@@ -1,6 +1,6 @@
 // Images to the services that they mean.
 ghost use mathlib.Core.Path.{_≡_};
-ghost use Rattle.image.specs.Image.{keyboardAt, serviceOf};
+ghost use Rattle.image.specs.Image.{keyboardAt, bareServiceOf};
 use image::Image;
 use port::Port;
 use state::Ports;
@@ -23,8 +23,9 @@ fn keyboard_of(image: Image) -> Port
     }
 }
 
+// With a new controller: no event looks at it, so an event on an image leaves the controller's numbers where they are.
 pub fn service_of(image: Image) -> Service
-    ensures { λ r. ⌜ r ≡ serviceOf image ⌝ }
+    ensures { λ r. ⌜ r ≡ bareServiceOf image ⌝ }
 {
     let flags = image.flags;
     let line = image.line;
@@ -39,5 +40,6 @@ pub fn service_of(image: Image) -> Service
         queue: queue_part::queue_of(queue),
         line: line_part::line_of(line, flags.byte97),
         codes: image_making::codes_of(image.input / 16),
+        controller: controller::new(),
     }
 }

@@ -1,9 +1,11 @@
 // The service lent and changed in place: thin calls over the calls by value.
 ghost use mathlib.Core.Path.{_≡_};
 ghost use Rattle.report.specs.Reported.{bufferOf};
-ghost use Rattle.lent_calls.specs.Lent.{madeIn, eventIn, frameIn, changeIn, reportedIn, resynchronisedIn};
+ghost use Rattle.lent_calls.specs.Lent.{madeIn, eventIn, frameIn, changeIn, portIn, reportedIn, resynchronisedIn};
+use controller::PortEvent;
 use events::Event;
 use lent_calls::Answered;
+use lent_calls::PortAnswered;
 use lent_calls::Stepped;
 use lent_calls::Tried;
 use state::Service;
@@ -55,6 +57,16 @@ pub fn change(service: &mut Service, set: CodeSet) -> Answered
         × (r ≡ changeIn (now (service .entry)) set .answered) ⌝ }
 {
     let stepped = lent_by_value::change(*service, set);
+    *service = stepped.service;
+    stepped.answered
+}
+
+// One port event: a read of 60 feeds the key that it gives.
+pub fn port_event(service: &mut Service, event: PortEvent) -> PortAnswered
+    ensures { λ r. ⌜ (now (service .exit) ≡ portIn (now (service .entry)) event .service)
+        × (r ≡ portIn (now (service .entry)) event .answered) ⌝ }
+{
+    let stepped = lent_by_value::port_event(*service, event);
     *service = stepped.service;
     stepped.answered
 }

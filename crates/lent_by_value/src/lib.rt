@@ -1,11 +1,14 @@
 // What each lent call does, by value: the service that it leaves and what it returns.
 ghost use mathlib.Core.Path.{_≡_};
 ghost use Rattle.report.specs.Reported.{bufferOf};
-ghost use Rattle.lent_calls.specs.Lent.{triedOf, madeIn, resynchronisedIn, steppedOf, eventIn, frameIn, changeIn, reportedIn};
+ghost use Rattle.lent_calls.specs.Lent.{triedOf, madeIn, resynchronisedIn, steppedOf, eventIn, frameIn, changeIn, portIn, reportedIn};
 use answers::Answer;
+use controller::PortEvent;
 use events::Event;
 use events::Outcome;
 use lent_calls::Answered;
+use lent_calls::PortAnswered;
+use lent_calls::PortStepped;
 use lent_calls::Stepped;
 use lent_calls::Tried;
 use state::Made;
@@ -69,6 +72,24 @@ pub fn change(service: Service, set: CodeSet) -> Stepped
     ensures { λ r. ⌜ r ≡ changeIn service set ⌝ }
 {
     told(service_making::change(service, set))
+}
+
+pub fn port_event(service: Service, event: PortEvent) -> PortStepped
+    ensures { λ r. ⌜ r ≡ portIn service event ⌝ }
+{
+    let step = service_controller::port_event(service, event);
+    let outcome = step.outcome;
+    let response = step.response;
+    let left = outcome.service;
+    let answer = outcome.answer;
+    let sent = outcome.sent;
+    PortStepped {
+        service: left,
+        answered: PortAnswered {
+            answered: Answered { answer, sent },
+            response,
+        },
+    }
 }
 
 pub fn report(service: Service, event: Event, buffer: &mut [u8]) -> Tried

@@ -5,6 +5,7 @@ use mathlib.Core.List.{List, []}
 use lib.Dec.{eqb}
 use Rattle.bits.specs.Choice.{if_then_else_}
 use Rattle.translation.specs.declared.CodeSet.{CodeSet}
+use Rattle.controller.specs.declared.PortEvent.{PortEvent}
 use Rattle.state.specs.declared.Service.{Service}
 use Rattle.events.specs.declared.Event.{Event}
 use Rattle.events.specs.declared.Outcome.{Outcome}
@@ -13,6 +14,7 @@ use Rattle.state.specs.State.{makeOf}
 use Rattle.events.specs.Step.{stepOf}
 use Rattle.events.specs.Frames.{frameStepOf}
 use Rattle.events.specs.Sets.{changeOf}
+use Rattle.events.specs.Controller.{portStepOf}
 use Rattle.events.specs.Run.{after}
 use Rattle.events.specs.Resynchronised.{resynchronisation, setIn}
 use Rattle.answers.specs.declared.Answer.the-variants.{Done}
@@ -20,6 +22,7 @@ use Rattle.report.specs.declared.Reported.{Reported}
 use Rattle.report.specs.Reported.{reportedOf}
 use Rattle.lent_calls.specs.declared.Answered.{Answered}
 use Rattle.lent_calls.specs.declared.Stepped.{Stepped}
+use Rattle.lent_calls.specs.declared.PortStepped.{PortStepped}
 use Rattle.lent_calls.specs.declared.Tried.{Tried}
 
 -- a service that was made replaces the one lent; a refusal leaves that one as it was
@@ -45,6 +48,11 @@ frameIn service frame = steppedOf (frameStepOf service frame)
 
 unfoldable pub changeIn : Service → CodeSet → Stepped
 changeIn service set = steppedOf (changeOf service set)
+
+unfoldable pub portIn : Service → PortEvent → PortStepped
+portIn service event =
+    let step = portStepOf service event in
+    record { service = step .outcome .service; answered = record { answered = answeredBy (step .outcome); response = step .response } }
 
 abbrev pub tellsOf : Reported → Tried
 tellsOf reported = record { service = reported .service; refusal = reported .refusal }

@@ -10,16 +10,22 @@ use Rattle.frame.specs.Frame.{readFrame}
 use Rattle.line.specs.State.{sentOf}
 use Rattle.translation.specs.declared.CodeSet.{CodeSet}
 use Rattle.translation.specs.Translation.{unmarkedOf}
+use Rattle.controller.specs.declared.Buffer.the-variants as buffer
+use Rattle.controller.specs.declared.PortEvent.{PortEvent}
+use Rattle.controller.specs.declared.PortEvent.the-variants.{Read60}
+use Rattle.controller.specs.declared.PortRefusal.{PortRefusal}
+use Rattle.controller.specs.declared.Response.the-variants as response
+use Rattle.controller.specs.PortEvents.{holding}
 use Rattle.state.specs.declared.Service.{Service}
 use Rattle.events.specs.declared.Event.{Event}
 use Rattle.events.specs.declared.Event.the-variants.{Key}
 use Rattle.answers.specs.declared.Refusal.{Refusal}
-use Rattle.answers.specs.declared.Refusal.the-variants.{Frame}
+use Rattle.answers.specs.declared.Refusal.the-variants.{Frame, Port}
 use Rattle.answers.specs.declared.Answer.the-variants.{Nothing, Refused}
-use Rattle.state.specs.State.{newService, withCodes}
+use Rattle.state.specs.State.{newService, withCodes, withController}
 use Rattle.events.specs.Step.{stepOf}
 use Rattle.report.specs.Reported.{reportLength, bufferOf}
-use Rattle.lent_calls.specs.Lent.{madeIn, eventIn, frameIn, changeIn, reportedIn}
+use Rattle.lent_calls.specs.Lent.{madeIn, eventIn, frameIn, changeIn, portIn, reportedIn}
 
 -- 1: lock bits above 15 leave the service that is lent; others make a new one of it
 pub record Makes : Type 0 where
@@ -45,6 +51,23 @@ Changes =
     (service : Service) (set : CodeSet) →
     changeIn service set
     ≡ record { service = withCodes service (unmarkedOf set); answered = record { answer = Nothing; sent = sentOf (service .line) } }
+
+-- 14 to 16: a port event that is refused; the key that a read of 60 feeds is its event, run beside the controller that the read left
+pub record PortEvents : Type 0 where
+  pub refused : (service : Service) (event : PortEvent) (refusal : PortRefusal) →
+      portIn service event .answered .response ≡ response.Refused refusal →
+      portIn service event
+      ≡ record {
+        service = service;
+        answered =
+            record { answered = record { answer = Refused (Port refusal); sent = sentOf (service .line) }; response = response.Refused refusal };
+      }
+  pub fed : (service : Service) (byte : ℕ) → service .controller .buffer ≡ buffer.Key byte →
+      portIn service Read60
+      ≡ record {
+        service = withController (eventIn service (Key byte) .service) (holding (service .controller) (buffer.Empty byte));
+        answered = record { answered = eventIn service (Key byte) .answered; response = response.Key byte };
+      }
 
 -- 9 leaves the service and every byte of the buffer
 pub record Untouched (service : Service) (event : Event) (buffer : List ℕ) : Type 0 where

@@ -12,10 +12,13 @@ use Rattle.frame.specs.declared.Reading.{Reading}
 use Rattle.frame.specs.declared.Reading.the-variants.{Byte, Refused}
 use Rattle.frame.specs.Frame.{readFrame}
 use Rattle.port.specs.declared.Port.{Port}
+use Rattle.controller.specs.declared.Response.{Response}
+use Rattle.controller.specs.declared.Response.the-variants as response
+use Rattle.controller.specs.PortEvents.{respondedOf}
 use Rattle.state.specs.declared.Device.{Device}
 use Rattle.state.specs.declared.Device.the-variants.{Keyboard, Scanner}
 use Rattle.state.specs.declared.Service.{Service}
-use Rattle.state.specs.State.{portOf}
+use Rattle.state.specs.State.{portOf, withController}
 use Rattle.events.specs.declared.Event.{Event}
 use Rattle.events.specs.declared.Event.the-variants.{Key}
 use Rattle.events.specs.Tags.{tagOf}
@@ -24,23 +27,22 @@ use Rattle.events.specs.Outcomes.{answeredOf}
 use Rattle.events.specs.Step.{stepOf}
 use Rattle.events.specs.Frames.{onFrame, frameStepOf}
 use Rattle.events.specs.Sets.{changeOf}
+use Rattle.events.specs.Controller.{onResponse, portStepOf}
 use Rattle.events.specs.Run.{Shown, shownOf}
 use Rattle.events.specs.Ports.{isKeyboard, concerns, onPort, outcomeOn, ShownBeside, besidePorts}
 use Rattle.events.proofs.Ports.{ports-apart, shown-alike, scanner-unshown}
 use Rattle.report.specs.Report.{reportFrom, reportOf}
 use Rattle.report.specs.Text.{textOf}
 use Rattle.report.specs.Reported.{reportLength, refusalIn, tooShort}
-use Rattle.lists.specs.Items.{Item, runs, reports, receives, changes, Seen, Stepped, answered, stepItem, nextItem, afterItems, seenItems}
+use Rattle.lists.specs.Items.{Item, runs, reports, receives, changes, atPort, PortSeen, Seen, Stepped, portSeen, noPort, statusIn, answered, seenOf, stepItem, nextItem, afterItems, seenItems}
 use Rattle.lists.specs.Ports.{itemConcerns, NoneConcerns, SeenBeside, seenBeside, ListsApart, ScannerUnseen}
 use Rattle.lists.proofs.ItemLaws.{short-runs-nothing, long-runs}
 
 -- ---- what is shown of an outcome where another port stands
 
-abbrev besideAnswer : ShownBeside → SeenBeside
-besideAnswer shown = record { shown = shown ∷ []; refusal = refusalIn (shown .ans) }
-
 record Apart (device : Device) (port : Port) (other outcome : Outcome) : Type 0 where
   service : other .service ≡ onPort device port (outcome .service)
+  status : statusIn (other .service) ≡ statusIn (outcome .service)
   beside : besidePorts (shownOf other) ≡ besidePorts (shownOf outcome)
   whole : isKeyboard device ≡ false → shownOf other ≡ shownOf outcome
 
@@ -52,6 +54,7 @@ outcome-apart : (device : Device) (port : Port) (other outcome : Outcome) → ot
 outcome-apart device port other outcome is =
     record {
       service = ap (λ (o : Outcome). o .service) is;
+      status = ap (λ (o : Outcome). statusIn (o .service)) is;
       beside = ap (λ (o : Outcome). besidePorts (shownOf o)) is ∙ shown-alike device port outcome;
       whole = λ scanner. ap shownOf is ∙ whole-shown device port outcome scanner;
     }
@@ -70,6 +73,25 @@ record StepApart (device : Device) (port : Port) (other stepped : Stepped) : Typ
 abbrev Step : Device → Port → Service → Item → Type 0
 Step device port service item = StepApart device port (stepItem (onPort device port service) item) (stepItem service item)
 
+-- what is seen is made of what is shown and of the status
+made-alike : {A B : Type 0} (f : A → ℕ → B) {a b : A} {s t : ℕ} → a ≡ b → s ≡ t → f a s ≡ f b t
+made-alike f {b = b} {s = s} shown status = ap (λ x. f x s) shown ∙ ap (f b) status
+
+abbrev besideAnswer : PortSeen → ShownBeside → ℕ → SeenBeside
+besideAnswer at-port shown status = record { shown = shown ∷ []; refusal = refusalIn (shown .ans); port = at-port; status = status }
+
+abbrev stepped : Outcome → List Item → PortSeen → Stepped
+stepped outcome ran at-port = record { service = outcome .service; ran = ran; seen = seenOf outcome at-port }
+
+answer-apart : {device : Device} {port : Port} {other outcome : Outcome} (ran others : List Item) (at-port : PortSeen) → Apart device port other outcome
+    → StepApart device port (stepped other others at-port) (stepped outcome ran at-port)
+answer-apart ran others at-port apart =
+    record {
+      service = apart .service;
+      beside = made-alike (besideAnswer at-port) (apart .beside) (apart .status);
+      whole = λ scanner. made-alike (λ shown. answered shown at-port) (apart .whole scanner) (apart .status);
+    }
+
 report-apart : (device : Device) (port : Port) (service : Service) (event : Event) (buffer : List ℕ) → concerns device event ≡ false
     → Step device port service (reports event buffer)
 unfolding reportOf
@@ -83,29 +105,47 @@ report-apart device port service event buffer other =
     let long = ltb-false _ _ test in
     let apart = event-apart device port service event other in
     rw (long-runs (onPort device port service) event buffer long, long-runs service event buffer long)
-    (record { service = apart .service; beside = ap besideAnswer (apart .beside); whole = λ scanner. ap written (apart .whole scanner) }))
+    (record {
+      service = apart .service;
+      beside = made-alike (besideAnswer noPort) (apart .beside) (apart .status);
+      whole = λ scanner. made-alike written (apart .whole scanner) (apart .status);
+    }))
   where
-    written : Shown → Seen
-    written shown = record { shown = shown ∷ []; refusal = refusalIn (shown .ans); buffer = textOf (reportFrom (tagOf event) shown) ++ drop reportLength buffer }
+    written : Shown → ℕ → Seen
+    written shown status =
+        record {
+          shown = shown ∷ [];
+          refusal = refusalIn (shown .ans);
+          buffer = textOf (reportFrom (tagOf event) shown) ++ drop reportLength buffer;
+          port = noPort;
+          status = status;
+        }
 
 frame-apart : (port : Port) (service : Service) (reading : Reading) → Apart Scanner port (onFrame (onPort Scanner port service) reading) (onFrame service reading)
 unfolding answeredOf
 frame-apart port service (Byte byte) = event-apart Scanner port service (Key byte) refl
 frame-apart port service (Refused fault) = outcome-apart Scanner port _ _ refl
 
+response-apart : (port : Port) (service : Service) (r : Response) → Apart Scanner port (onResponse (onPort Scanner port service) r) (onResponse service r)
+unfolding answeredOf
+response-apart port service response.Accepted = outcome-apart Scanner port _ _ refl
+response-apart port service response.Interrupt = outcome-apart Scanner port _ _ refl
+response-apart port service (response.Byte byte) = outcome-apart Scanner port _ _ refl
+response-apart port service (response.Key byte) = event-apart Scanner port service (Key byte) refl
+response-apart port service (response.Refused refusal) = outcome-apart Scanner port _ _ refl
+
 item-apart : (device : Device) (port : Port) (service : Service) (item : Item) → itemConcerns device item ≡ false → Step device port service item
-unfolding stepItem frameStepOf changeOf answeredOf
-item-apart device port service (runs event) other =
-    let apart = event-apart device port service event other in
-    record { service = apart .service; beside = ap besideAnswer (apart .beside); whole = λ scanner. ap answered (apart .whole scanner) }
+unfolding stepItem frameStepOf changeOf answeredOf portStepOf
+item-apart device port service (runs event) other = answer-apart _ _ noPort (event-apart device port service event other)
 item-apart device port service (reports event buffer) other = report-apart device port service event buffer other
 item-apart Keyboard port service (receives frame) other = not-both refl other
-item-apart Scanner port service (receives frame) other =
-    let apart = frame-apart port service (readFrame frame) in
-    record { service = apart .service; beside = ap besideAnswer (apart .beside); whole = λ scanner. ap answered (apart .whole scanner) }
+item-apart Scanner port service (receives frame) other = answer-apart _ _ noPort (frame-apart port service (readFrame frame))
 item-apart device port service (changes set) other =
-    let apart = outcome-apart device port (changeOf (onPort device port service) set) (changeOf service set) refl in
-    record { service = apart .service; beside = ap besideAnswer (apart .beside); whole = λ scanner. ap answered (apart .whole scanner) }
+    answer-apart _ _ noPort (outcome-apart device port (changeOf (onPort device port service) set) (changeOf service set) refl)
+item-apart Keyboard port service (atPort event) other = not-both refl other
+item-apart Scanner port service (atPort event) other =
+    let responded = respondedOf (service .controller) event in
+    answer-apart _ _ (portSeen (responded .response)) (response-apart port (withController service (responded .controller)) (responded .response))
 
 -- ---- lists
 

@@ -12,17 +12,24 @@ use Rattle.frame.specs.declared.Reading.{Reading}
 use Rattle.frame.specs.declared.Reading.the-variants.{Byte, Refused}
 use Rattle.frame.specs.Frame.{readFrame}
 use Rattle.frame.specs.Laws.{isAccepted}
+use Rattle.controller.specs.declared.PortEvent.{PortEvent}
+use Rattle.controller.specs.declared.Response.{Response}
+use Rattle.controller.specs.declared.Response.the-variants as response
+use Rattle.controller.specs.PortEvents.{isRefused}
 use Rattle.state.specs.declared.Service.{Service}
 use Rattle.events.specs.declared.Event.{Event}
 use Rattle.events.specs.Outcomes.{answeredOf}
 use Rattle.events.specs.Step.{stepOf}
 use Rattle.events.specs.Sets.{changeOf}
+use Rattle.events.specs.Controller.{portStepOf}
 use Rattle.events.specs.Run.{shownOf}
 use Rattle.events.proofs.RefusedCalls.{refused-step}
+use Rattle.events.proofs.Controller.{refused-port}
 use Rattle.report.specs.Report.{reportOf}
-use Rattle.lists.specs.Items.{Item, runs, reports, receives, changes, Stepped, stepItem, nextItem, afterItems, seenItems}
-use Rattle.lists.specs.TakenOut.{others, TakenOut, refusedFrame, RefusedFramesOut, refused, RefusedOut}
-use Rattle.lists.proofs.ItemLaws.{refused-runs-nothing, by-item}
+use Rattle.lists.specs.Items.{Item, runs, reports, receives, changes, atPort, Stepped, stepItem, nextItem, afterItems, seenItems}
+use Rattle.lists.specs.ItemLaws.{portedStep}
+use Rattle.lists.specs.TakenOut.{others, TakenOut, refusedFrame, RefusedFramesOut, refusedAtPort, RefusedPortEventsOut, refused, RefusedOut}
+use Rattle.lists.proofs.ItemLaws.{refused-runs-nothing, refused-at-port, by-item}
 
 -- ---- any items that leave their service
 
@@ -56,9 +63,30 @@ frame-leaves service (runs event) is = absurd (true≢false (sym is))
 frame-leaves service (reports event buffer) is = absurd (true≢false (sym is))
 frame-leaves service (receives frame) is = fault-leaves service frame (readFrame frame) refl (not-true _ is)
 frame-leaves service (changes set) is = absurd (true≢false (sym is))
+frame-leaves service (atPort event) is = absurd (true≢false (sym is))
 
 pub refused-frames-out : RefusedFramesOut
 refused-frames-out = taken-out refusedFrame frame-leaves
+
+-- ---- refused port events
+
+response-leaves : (service : Service) (event : PortEvent) (r : Response) → portStepOf service event .response ≡ r → isRefused r ≡ true
+    → nextItem service (atPort event) ≡ service
+response-leaves service event response.Accepted is refused = absurd (true≢false (sym refused))
+response-leaves service event response.Interrupt is refused = absurd (true≢false (sym refused))
+response-leaves service event (response.Byte byte) is refused = absurd (true≢false (sym refused))
+response-leaves service event (response.Key byte) is refused = absurd (true≢false (sym refused))
+response-leaves service event (response.Refused refusal) is refused = ap (λ (s : Stepped). s .service) (refused-at-port service event refusal is)
+
+port-leaves : (service : Service) (item : Item) → refusedAtPort service item ≡ true → nextItem service item ≡ service
+port-leaves service (runs event) is = absurd (true≢false (sym is))
+port-leaves service (reports event buffer) is = absurd (true≢false (sym is))
+port-leaves service (receives frame) is = absurd (true≢false (sym is))
+port-leaves service (changes set) is = absurd (true≢false (sym is))
+port-leaves service (atPort event) is = response-leaves service event (portStepOf service event .response) refl is
+
+pub refused-port-events-out : RefusedPortEventsOut
+refused-port-events-out = taken-out refusedAtPort port-leaves
 
 -- ---- all that is refused
 
@@ -71,11 +99,16 @@ unfolding stepItem
 event-leaves service event is =
     refused-step service event (lt-ltb 0x7F (shownOf (stepOf service event) .ans) (omega (arith, ltb-true 0 (shownOf (stepOf service event) .ans - 0x80) is)))
 
+port-step-leaves : (service : Service) (event : PortEvent) → Leaves service (portedStep service event)
+port-step-leaves service event is =
+    let ans = shownOf (portStepOf service event .outcome) .ans in
+    refused-port service event (lt-ltb 0x7F ans (omega (arith, ltb-true 0 (ans - 0x80) is)))
+
 item-leaves : (service : Service) (item : Item) → Leaves service (stepItem service item)
 unfolding stepItem reportOf changeOf answeredOf
 item-leaves service =
-    by-item (Leaves service) service (event-leaves service) (λ buffer _. refl) (λ event buffer. event-leaves service event) (λ fault _. refl)
-    (λ set is. absurd (true≢false (sym is)))
+    by-item (Leaves service) service (event-leaves service) (λ buffer _. refl) (λ event buffer. event-leaves service event) (λ number _ _. refl)
+    (λ set is. absurd (true≢false (sym is))) (λ event _. port-step-leaves service event)
 
 pub refused-out : RefusedOut
 refused-out = taken-out refused item-leaves

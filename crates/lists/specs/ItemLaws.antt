@@ -2,27 +2,38 @@
 -- Assumes nothing.
 use Prim.Native.Nat.{ℕ, _+_, _<_, _≤_}
 use mathlib.Core.Path.{_≡_}
+use mathlib.Core.Bool.{false}
 use mathlib.Core.List.{List, [], _∷_, _++_, map}
 use lib.ListN.{length, drop}
 use Rattle.frame.specs.declared.Fault.{Fault}
 use Rattle.frame.specs.declared.Reading.the-variants.{Byte, Refused}
 use Rattle.frame.specs.Frame.{frameOf, readFrame, faultNumber}
 use Rattle.line.specs.State.{sentOf}
+use Rattle.controller.specs.declared.PortEvent.{PortEvent}
+use Rattle.controller.specs.declared.PortRefusal.{PortRefusal}
+use Rattle.controller.specs.declared.Response.the-variants as response
+use Rattle.controller.specs.PortEvents.{portRefusalNumber, isRefused}
 use Rattle.state.specs.declared.Service.{Service}
 use Rattle.state.specs.Flags.{byte17Of, byte18Of, byte96Of, byte97Of}
 use Rattle.events.specs.declared.Event.{Event}
 use Rattle.events.specs.declared.Event.the-variants.{Key}
 use Rattle.events.specs.Step.{stepOf}
+use Rattle.events.specs.Controller.{portStepOf}
 use Rattle.events.specs.Run.{shownOf, next, run, after}
 use Rattle.report.specs.Text.{textOf}
 use Rattle.report.specs.Reported.{reportLength, eventReport, refusalIn}
-use Rattle.lists.specs.Items.{Item, runs, reports, receives, Seen, Stepped, stepItem, afterItems, ranItems, seenItems, shownIn}
+use Rattle.lists.specs.Items.{Item, runs, reports, receives, atPort, Seen, Stepped, portSeen, noPort, statusIn, seenOf, stepItem, afterItems, ranItems, seenItems, shownIn}
 
 -- One item: a report by the length of its buffer.
 
 -- below 44 bytes: 9, no event, service and buffer as they were
 abbrev pub refusedStep : Service → List ℕ → Stepped
-refusedStep service buffer = record { service = service; ran = []; seen = record { shown = []; refusal = 9; buffer = buffer } }
+refusedStep service buffer =
+    record {
+      service = service;
+      ran = [];
+      seen = record { shown = []; refusal = 9; buffer = buffer; port = noPort; status = statusIn service };
+    }
 
 abbrev pub ShortRunsNothing : Type 0
 ShortRunsNothing =
@@ -40,6 +51,8 @@ reportedStep service event buffer =
             shown = shownOf (stepOf service event) ∷ [];
             refusal = refusalIn (eventReport service event .ans);
             buffer = textOf (eventReport service event) ++ drop reportLength buffer;
+            port = noPort;
+            status = statusIn (next service event);
           };
     }
 
@@ -55,9 +68,9 @@ abbrev pub AcceptedIsKey : Type 0
 AcceptedIsKey =
     (service : Service) (frame byte : ℕ) → readFrame frame ≡ Byte byte → stepItem service (receives frame) ≡ stepItem service (runs (Key byte))
 
--- a fault: 11, 12 or 13, no event, the service as it was; the flag bytes and the count of bytes sent are shown as they stand
-abbrev pub refusedFrameStep : Service → Fault → Stepped
-refusedFrameStep service fault =
+-- refused by a number above 5: no event, the service as it was; the flag bytes and the count of bytes sent are shown as they stand
+abbrev pub turnedAway : Service → ℕ → Stepped
+turnedAway service number =
     record {
       service = service;
       ran = [];
@@ -65,7 +78,7 @@ refusedFrameStep service fault =
           record {
             shown =
                 record {
-                  ans = 0x80 + faultNumber fault;
+                  ans = 0x80 + number;
                   word = 0;
                   byte17 = byte17Of service;
                   byte18 = byte18Of service;
@@ -73,15 +86,37 @@ refusedFrameStep service fault =
                   byte97 = byte97Of service;
                   sent = sentOf (service .line);
                 } ∷ [];
-            refusal = faultNumber fault;
+            refusal = number;
             buffer = [];
+            port = noPort;
+            status = statusIn service;
           };
     }
 
+-- a fault: 11, 12 or 13
 abbrev pub RefusedRunsNothing : Type 0
 RefusedRunsNothing =
     (service : Service) (frame : ℕ) (fault : Fault) → readFrame frame ≡ Refused fault →
-    stepItem service (receives frame) ≡ refusedFrameStep service fault
+    stepItem service (receives frame) ≡ turnedAway service (faultNumber fault)
+
+-- One item: a port event by how the controller responds.
+
+-- 14, 15 or 16
+abbrev pub RefusedAtPort : Type 0
+RefusedAtPort =
+    (service : Service) (event : PortEvent) (refusal : PortRefusal) → portStepOf service event .response ≡ response.Refused refusal →
+    stepItem service (atPort event) ≡ turnedAway service (portRefusalNumber refusal)
+
+-- any other: it ran, and is itself what ran
+abbrev pub portedStep : Service → PortEvent → Stepped
+portedStep service event =
+    let step = portStepOf service event in
+    record { service = step .outcome .service; ran = atPort event ∷ []; seen = seenOf (step .outcome) (portSeen (step .response)) }
+
+abbrev pub AcceptedAtPort : Type 0
+AcceptedAtPort =
+    (service : Service) (event : PortEvent) → isRefused (portStepOf service event .response) ≡ false →
+    stepItem service (atPort event) ≡ portedStep service event
 
 -- Lists: only what ran counts.
 
@@ -142,4 +177,12 @@ NothingBetween =
 abbrev pub RefusedBetween : Type 0
 RefusedBetween =
     (service : Service) (before later : List Item) (event : Event) (buffer : List ℕ) → length buffer < reportLength →
-    Between service before later (reports event buffer) (refusedStep service buffer .seen)
+    Between service before later (reports event buffer) (refusedStep (afterItems service before) buffer .seen)
+
+-- and with a refused port event, seen as turned away
+abbrev pub RefusedPortBetween : Type 0
+RefusedPortBetween =
+    (service : Service) (before later : List Item) (event : PortEvent) (refusal : PortRefusal) →
+    let there = afterItems service before in
+    portStepOf there event .response ≡ response.Refused refusal →
+    Between service before later (atPort event) (turnedAway there (portRefusalNumber refusal) .seen)

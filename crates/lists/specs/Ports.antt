@@ -10,14 +10,15 @@ use Rattle.state.specs.declared.Device.the-variants.{Scanner}
 use Rattle.state.specs.declared.Service.{Service}
 use Rattle.state.specs.State.{portOf}
 use Rattle.events.specs.Ports.{isKeyboard, concerns, onPort, ShownBeside, besidePorts}
-use Rattle.lists.specs.Items.{Item, runs, reports, receives, changes, Seen, afterItems, seenItems}
+use Rattle.lists.specs.Items.{Item, runs, reports, receives, changes, atPort, PortSeen, Seen, afterItems, seenItems}
 
--- frames are the keyboard's; a change of set leaves both ports
+-- frames and port events are the keyboard's; a change of set leaves both ports
 abbrev pub itemConcerns : Device → Item → Bool
 itemConcerns device (runs event) = concerns device event
 itemConcerns device (reports event buffer) = concerns device event
 itemConcerns device (receives frame) = isKeyboard device
 itemConcerns device (changes set) = false
+itemConcerns device (atPort event) = isKeyboard device
 
 abbrev pub NoneConcerns : Device → List Item → Type 0
 NoneConcerns device [] = Unit {0}
@@ -27,9 +28,11 @@ NoneConcerns device (item ∷ more) = (itemConcerns device item ≡ false) × No
 pub record SeenBeside : Type 0 where
   pub shown : List ShownBeside
   pub refusal : ℕ
+  pub port : PortSeen
+  pub status : ℕ
 
 abbrev pub seenBeside : Seen → SeenBeside
-seenBeside seen = record { shown = map besidePorts (seen .shown); refusal = seen .refusal }
+seenBeside seen = record { shown = map besidePorts (seen .shown); refusal = seen .refusal; port = seen .port; status = seen .status }
 
 -- a list that does not concern a device leaves its port, and leaves and shows all else whatever stands there
 pub record ListApart (device : Device) (port : Port) (service : Service) (items : List Item) : Type 0 where

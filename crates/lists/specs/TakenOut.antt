@@ -8,8 +8,10 @@ use lib.Dec.{ltb}
 use Rattle.bits.specs.Choice.{if_then_else_}
 use Rattle.frame.specs.Frame.{readFrame}
 use Rattle.frame.specs.Laws.{isAccepted}
+use Rattle.controller.specs.PortEvents.{isRefused}
 use Rattle.state.specs.declared.Service.{Service}
-use Rattle.lists.specs.Items.{Item, runs, reports, receives, changes, Seen, stepItem, nextItem, afterItems, seenItems}
+use Rattle.events.specs.Controller.{portStepOf}
+use Rattle.lists.specs.Items.{Item, runs, reports, receives, changes, atPort, Seen, stepItem, nextItem, afterItems, seenItems}
 
 -- a test picks items when their turn comes: the list of the others, and what is seen of those in the whole list
 abbrev pub others : (Service → Item → Bool) → Service → List Item → List Item
@@ -33,9 +35,21 @@ refusedFrame service (runs event) = false
 refusedFrame service (reports event buffer) = false
 refusedFrame service (receives frame) = not (isAccepted (readFrame frame))
 refusedFrame service (changes set) = false
+refusedFrame service (atPort event) = false
 
 abbrev pub RefusedFramesOut : Type 0
 RefusedFramesOut = (service : Service) (items : List Item) → TakenOut refusedFrame service items
+
+-- document 02, W-207: and with refused port events, in any list with all else
+abbrev pub refusedAtPort : Service → Item → Bool
+refusedAtPort service (runs event) = false
+refusedAtPort service (reports event buffer) = false
+refusedAtPort service (receives frame) = false
+refusedAtPort service (changes set) = false
+refusedAtPort service (atPort event) = isRefused (portStepOf service event .response)
+
+abbrev pub RefusedPortEventsOut : Type 0
+RefusedPortEventsOut = (service : Service) (items : List Item) → TakenOut refusedAtPort service items
 
 -- and with all that any number refuses
 abbrev pub refused : Service → Item → Bool

@@ -15,7 +15,7 @@ use state::Ports;
 use state::Service;
 use translation::CodeSet;
 
-// A service with no key down at either port, no code marked and no word.
+// A service with no key down at either port, no code marked, no word and a new controller.
 fn quiet(set: CodeSet, locks: Locks, paused: bool, line: Line) -> Service
     ensures { λ r. ⌜ r ≡ quietOf set locks paused line ⌝ }
 {
@@ -25,12 +25,14 @@ fn quiet(set: CodeSet, locks: Locks, paused: bool, line: Line) -> Service
     };
     let queue = queue::empty();
     let codes = translation::unmarked(set);
+    let controller = controller::new();
     Service {
         ports,
         shared: Shared { locks, paused },
         queue,
         line,
         codes,
+        controller,
     }
 }
 

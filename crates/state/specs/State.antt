@@ -16,6 +16,8 @@ use Rattle.line.specs.State.{newLine}
 use Rattle.translation.specs.declared.CodeSet.{CodeSet}
 use Rattle.translation.specs.declared.Codes.{Codes}
 use Rattle.translation.specs.Translation.{unmarkedOf}
+use Rattle.controller.specs.declared.Controller.{Controller}
+use Rattle.controller.specs.State.{newController}
 use Rattle.state.specs.declared.Device.{Device}
 use Rattle.state.specs.declared.Device.the-variants.{Keyboard, Scanner}
 use Rattle.state.specs.declared.Ports.{Ports}
@@ -32,7 +34,7 @@ locksOf bits =
       insert = bit3 bits;
     }
 
--- no key down at either port, no code marked, no word in the queue
+-- no key down at either port, no code marked, no word in the queue, the controller new
 abbrev pub quietOf : CodeSet → Locks → Bool → Line → Service
 quietOf set locks paused line =
     record {
@@ -41,6 +43,7 @@ quietOf set locks paused line =
       queue = emptyQueue;
       line = line;
       codes = unmarkedOf set;
+      controller = newController;
     }
 
 -- all but the locks is clear, the queue empty, the line idle
@@ -72,16 +75,21 @@ turnedTo Scanner ports = record { keyboard = ports .scanner; scanner = ports .ke
 
 abbrev pub withPorts : Service → Ports → Shared → Service
 withPorts service ports shared =
-    record { ports = ports; shared = shared; queue = service .queue; line = service .line; codes = service .codes }
+    record { ports = ports; shared = shared; queue = service .queue; line = service .line; codes = service .codes; controller = service .controller }
 
 abbrev pub withQueue : Service → Queue → Service
 withQueue service queue =
-    record { ports = service .ports; shared = service .shared; queue = queue; line = service .line; codes = service .codes }
+    record { ports = service .ports; shared = service .shared; queue = queue; line = service .line; codes = service .codes; controller = service .controller }
 
 abbrev pub withLine : Service → Line → Service
 withLine service line =
-    record { ports = service .ports; shared = service .shared; queue = service .queue; line = line; codes = service .codes }
+    record { ports = service .ports; shared = service .shared; queue = service .queue; line = line; codes = service .codes; controller = service .controller }
 
 abbrev pub withCodes : Service → Codes → Service
 withCodes service codes =
-    record { ports = service .ports; shared = service .shared; queue = service .queue; line = service .line; codes = codes }
+    record { ports = service .ports; shared = service .shared; queue = service .queue; line = service .line; codes = codes; controller = service .controller }
+
+-- document 02, W-207
+abbrev pub withController : Service → Controller → Service
+withController service controller =
+    record { ports = service .ports; shared = service .shared; queue = service .queue; line = service .line; codes = service .codes; controller = controller }

@@ -1,6 +1,7 @@
 // The state of the service, and how its flag bytes show it.
 ghost use mathlib.Core.Path.{_≡_};
-ghost use Rattle.state.specs.State.{locksOf, turnedTo, withQueue, withLine, withCodes};
+ghost use Rattle.state.specs.State.{locksOf, turnedTo, withQueue, withLine, withCodes, withController};
+use controller::Controller;
 use line::Line;
 use port::Locks;
 use port::Port;
@@ -23,13 +24,14 @@ pub struct Ports {
     pub scanner: Port,
 }
 
-// The codes are the keyboard's alone: a scanner sends set 1. The order of the fields is that in which a copy is cheapest; it means nothing.
+// The codes and the controller are the keyboard's alone: a scanner sends set 1 to a plug of its own. The order of the fields is that in which a copy is cheapest; it means nothing.
 pub struct Service {
     pub ports: Ports,
     pub shared: Shared,
     pub codes: Codes,
     pub queue: Queue,
     pub line: Line,
+    pub controller: Controller,
 }
 
 // A service made from lock bits. With refusal 1, for bits above 15, it is the service of bits 0.
@@ -93,11 +95,22 @@ pub fn with_codes(service: Service, codes: Codes) -> Service
     let shared = service.shared;
     let queue = service.queue;
     let line = service.line;
+    let controller = service.controller;
     Service {
         ports,
         shared,
         queue,
         line,
         codes,
+        controller,
     }
+}
+
+// The service with another controller.
+pub fn with_controller(service: Service, controller: Controller) -> Service
+    ensures { λ r. ⌜ r ≡ withController service controller ⌝ }
+{
+    let mut next = service;
+    next.controller = controller;
+    next
 }

@@ -14,6 +14,10 @@ use Rattle.image.proofs.FlagBytes as FlagBytes
 use Rattle.image.proofs.FlagBytes.Laws as FlagBytes′
 use Rattle.image_calls.proofs.Changed as Changed
 use Rattle.image_calls.proofs.Changed.Laws as Changed′
+use Rattle.image_calls.proofs.PortShown as PortShown
+use Rattle.image_calls.proofs.PortShown.Laws as PortShown′
+use Rattle.image_calls.proofs.PortChanged as PortChanged
+use Rattle.image_calls.proofs.PortChanged.Laws as PortChanged′
 use Rattle.image_calls.proofs.Refused as Refused
 use Rattle.image_calls.proofs.Refused.Laws as Refused′
 use Rattle.lent_walks.proofs.Plain.{Plain, byte, struct, Outcome}
@@ -33,6 +37,9 @@ tagged = struct Tagged.the-type Tagged′.the-laws Tagged′.the-plain
 abbrev pub flag-bytes : Plain
 flag-bytes = struct FlagBytes.the-type FlagBytes′.the-laws FlagBytes′.the-plain
 
+abbrev pub port-shown : Plain
+port-shown = struct PortShown.the-type PortShown′.the-laws PortShown′.the-plain
+
 abbrev pub changed : Outcome image shown
 changed = record {
   Denot = Changed.the-type .D;
@@ -50,6 +57,25 @@ changed = record {
   makes = λ 𝓤 H A W. LL.makes Changed.the-type Changed′.the-plain 𝓤 H A;
   parts = λ r vs is. let of = LL.owed Changed.the-type Changed′.the-laws r vs is in (of .0, of .1 .0);
   owes = λ x y is-x is-y. LL.owes Changed.the-type Changed′.the-laws (record { image = x; shown = y }) (is-x, (is-y, tt));
+}
+
+abbrev pub port-changed : Outcome image port-shown
+port-changed = record {
+  Denot = PortChanged.the-type .D;
+  left = λ r. r .image;
+  reply = λ r. r .shown;
+  make = λ x y. record { image = x; shown = y };
+  eta = λ r. refl;
+  name = PortChanged.the-type .name;
+  written = PortChanged.the-row .written;
+  reaches = PortChanged.the-row .reaches;
+  own = PortChanged.the-row .own;
+  coded = PortChanged.the-row .coded;
+  tells = LL.tells PortChanged.the-type PortChanged′.the-laws;
+  typed = λ 𝓤 H A W r v is. LL.lawful PortChanged.the-type PortChanged′.the-laws 𝓤 H A W .typed r _ is .0;
+  makes = λ 𝓤 H A W. LL.makes PortChanged.the-type PortChanged′.the-plain 𝓤 H A;
+  parts = λ r vs is. let of = LL.owed PortChanged.the-type PortChanged′.the-laws r vs is in (of .0, of .1 .0);
+  owes = λ x y is-x is-y. LL.owes PortChanged.the-type PortChanged′.the-laws (record { image = x; shown = y }) (is-x, (is-y, tt));
 }
 
 abbrev pub refused : Outcome image byte

@@ -3,14 +3,18 @@ ghost use mathlib.Core.Path.{_≡_};
 ghost use Rattle.frame.specs.Frame.{frameOf};
 ghost use Rattle.image_calls.specs.Reads.{readTo};
 ghost use Rattle.image_calls.specs.Exports.{eventTo, frameTo, makeTo, changeTo, reportTo, writtenTo, flagsTo, resynchronisedTo};
+ghost use Rattle.image_calls.specs.PortCalls.{portTo};
+use controller::PortEvent;
 use image::FlagBytes;
 use image::Image;
+use image_calls::PortShown;
 use image_calls::Reading;
 use image_calls::Shown;
 use image_calls::Tagged;
 use translation::CodeSet;
 
 mod over_event;
+mod over_port;
 
 // A service newly made on set 1 with four lock bits, or refusal 1.
 #[no_mangle]
@@ -123,4 +127,59 @@ pub extern "C" fn xiquepazo_frame_of(byte: u8) -> u16
     ensures { λ r. ⌜ r ≡ frameOf byte ⌝ }
 {
     frame::write(byte)
+}
+
+// A byte from the keyboard reaches the controller; or refusal 14.
+#[no_mangle]
+pub extern "C" fn xiquepazo_from_keyboard(image: &mut Image, byte: u8) -> PortShown
+    ensures { λ r. ⌜ (now (image .exit) ≡ portTo (now (image .entry)) (PortEvent.FromKeyboard byte) .image)
+        × (r ≡ portTo (now (image .entry)) (PortEvent.FromKeyboard byte) .shown) ⌝ }
+{
+    let changed = over_port::from_keyboard(*image, byte);
+    *image = changed.image;
+    changed.shown
+}
+
+// A read of port 60, which feeds the key that it gives.
+#[no_mangle]
+pub extern "C" fn xiquepazo_read_60(image: &mut Image) -> PortShown
+    ensures { λ r. ⌜ (now (image .exit) ≡ portTo (now (image .entry)) PortEvent.Read60 .image)
+        × (r ≡ portTo (now (image .entry)) PortEvent.Read60 .shown) ⌝ }
+{
+    let changed = over_port::read_60(*image);
+    *image = changed.image;
+    changed.shown
+}
+
+// A read of port 64, the status.
+#[no_mangle]
+pub extern "C" fn xiquepazo_read_64(image: &mut Image) -> PortShown
+    ensures { λ r. ⌜ (now (image .exit) ≡ portTo (now (image .entry)) PortEvent.Read64 .image)
+        × (r ≡ portTo (now (image .entry)) PortEvent.Read64 .shown) ⌝ }
+{
+    let changed = over_port::read_64(*image);
+    *image = changed.image;
+    changed.shown
+}
+
+// A byte written to port 60, the command byte; or refusal 16.
+#[no_mangle]
+pub extern "C" fn xiquepazo_write_60(image: &mut Image, byte: u8) -> PortShown
+    ensures { λ r. ⌜ (now (image .exit) ≡ portTo (now (image .entry)) (PortEvent.Write60 byte) .image)
+        × (r ≡ portTo (now (image .entry)) (PortEvent.Write60 byte) .shown) ⌝ }
+{
+    let changed = over_port::write_60(*image, byte);
+    *image = changed.image;
+    changed.shown
+}
+
+// A byte written to port 64, a command; or refusal 15.
+#[no_mangle]
+pub extern "C" fn xiquepazo_write_64(image: &mut Image, byte: u8) -> PortShown
+    ensures { λ r. ⌜ (now (image .exit) ≡ portTo (now (image .entry)) (PortEvent.Write64 byte) .image)
+        × (r ≡ portTo (now (image .entry)) (PortEvent.Write64 byte) .shown) ⌝ }
+{
+    let changed = over_port::write_64(*image, byte);
+    *image = changed.image;
+    changed.shown
 }

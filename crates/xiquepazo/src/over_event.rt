@@ -1,13 +1,12 @@
 // The calls that go over an event: a report, a frame, a change of set, and the flag bytes. Each runs the event that C runs, on a copy, so that its code stands
 // in the library once.
 ghost use mathlib.Core.Path.{_≡_};
-ghost use Rattle.frame.specs.Frame.{faultNumber};
+ghost use Rattle.answers.specs.Answers.{refusalNumber};
 ghost use Rattle.report.specs.Report.{reportFrom};
-ghost use Rattle.image_calls.specs.Exports.{seen, withAnswer, refusedIn, eventTo, frameTo, changeTo, reportTo, writtenTo, flagsTo};
+ghost use Rattle.image_calls.specs.Exports.{seen, withAnswer, answeredNothing, refusedIn, written, eventTo, frameTo, changeTo, reportTo, writtenTo, flagsTo};
 use answers::Answer;
 use answers::Refusal;
 use events::Event;
-use frame::Fault;
 use frame::Reading;
 use image::FlagBytes;
 use image::Image;
@@ -18,7 +17,7 @@ use image_calls::Tagged;
 use report::Report;
 use translation::CodeSet;
 
-fn event_on_copy(image: Image, tagged: Tagged) -> Changed
+pub fn event_on_copy(image: Image, tagged: Tagged) -> Changed
     ensures { λ r. ⌜ r ≡ eventTo image tagged ⌝ }
 {
     let mut copy = image;
@@ -96,10 +95,11 @@ fn with_answer(shown: Shown, ans: u8) -> Shown
     next
 }
 
-fn refused_frame(image: Image, fault: Fault) -> Changed
-    ensures { λ r. ⌜ r ≡ refusedIn image (faultNumber fault) ⌝ }
+// Turned away: the image as it was, and what stands.
+pub fn refused(image: Image, refusal: Refusal) -> Changed
+    ensures { λ r. ⌜ r ≡ refusedIn image (refusalNumber refusal) ⌝ }
 {
-    let ans = answers::number(Answer::Refused(Refusal::Frame(fault)));
+    let ans = answers::number(Answer::Refused(refusal));
     let shown = with_answer(standing(image), ans);
     Changed { image, shown }
 }
@@ -110,23 +110,28 @@ pub fn frame(image: Image, frame: u16) -> Changed
 {
     match frame::read(frame) {
         Reading::Byte(byte) => event_on_copy(image, image_reading::tagged_of(Event::Key(byte))),
-        Reading::Refused(fault) => refused_frame(image, fault),
+        Reading::Refused(fault) => refused(image, Refusal::Frame(fault)),
     }
 }
 
-// A status call changes nothing, and writes the image of the changed set anew.
-fn change(set: CodeSet, image: Image) -> Changed
-    ensures { λ r. ⌜ r ≡ changeTo set image ⌝ }
+// With nothing to tell: a status call changes nothing, and writes the image anew.
+pub fn standing_anew(image: Image) -> Changed
+    ensures { λ r. ⌜ r ≡ answeredNothing (eventTo image (written (Event.Call 0x02 0 0))) ⌝ }
 {
-    let next = image_making::on_set(set, image);
     let status = image_reading::tagged_of(Event::Call(0x02, 0, 0));
-    let changed = event_on_copy(next, status);
+    let changed = event_on_copy(image, status);
     let after = changed.image;
     let shown = changed.shown;
     Changed {
         image: after,
         shown: with_answer(shown, answers::number(Answer::Nothing)),
     }
+}
+
+fn change(set: CodeSet, image: Image) -> Changed
+    ensures { λ r. ⌜ r ≡ changeTo set image ⌝ }
+{
+    standing_anew(image_making::on_set(set, image))
 }
 
 pub fn to_set_one(image: Image) -> Changed

@@ -1,12 +1,13 @@
 //! The exported functions, declared once, and safe calls over them.
 
-use reference::{CodeSet, Event, Input, Outcome, REPORT_LENGTH};
+use reference::{CodeSet, Event, Input, Outcome, PortEvent, Seen, REPORT_LENGTH};
 
 /// Bytes of a service as the library keeps it.
-pub const IMAGE_LENGTH: usize = 72;
+pub const IMAGE_LENGTH: usize = 80;
 
-/// Bytes of the scanner's port, which stand last.
+/// Bytes of the scanner's port, and of the controller behind it, which stands last.
 pub const SCANNER_LENGTH: usize = 8;
+pub const CONTROLLER_LENGTH: usize = 8;
 
 /// Where each number of a service stands in those bytes, as the header says.
 pub mod place {
@@ -40,6 +41,14 @@ pub mod place {
     pub const SCANNER_LOCKS: usize = 69;
     pub const SCANNER_INSERT: usize = 70;
     pub const SCANNER_SYSREQ: usize = 71;
+    pub const BUFFER: usize = 72;
+    /// What the buffer holds, or the byte that was read last where it is empty.
+    pub const BUFFERED: usize = 73;
+    pub const COMMAND_BYTE: usize = 74;
+    pub const AWAITING: usize = 75;
+    pub const COMMANDED: usize = 76;
+    /// Three bytes that mean nothing.
+    pub const SPARE: usize = 77;
 }
 
 /// The bits of the flag bytes, each with the place of its byte.
@@ -111,6 +120,21 @@ pub mod codes {
     pub const SET_2_MARKED: u8 = 2;
 }
 
+/// What the controller's output buffer holds, as a number; any other is read as empty.
+pub mod buffer {
+    pub const EMPTY: u8 = 0;
+    pub const KEY: u8 = 1;
+    pub const ANSWER: u8 = 2;
+}
+
+/// The bits of the command byte that do something.
+pub mod command {
+    pub const INTERRUPTS: u8 = 0x01;
+    pub const DISABLED: u8 = 0x10;
+    /// Stands turned over in the image, so that 0 there is the command byte of a new service.
+    pub const TURNED: u8 = INTERRUPTS;
+}
+
 /// Numbers that one half of a byte can hold.
 const HALF: u8 = 16;
 
@@ -147,6 +171,15 @@ struct FlagBytes {
     bytes: [u8; 4],
 }
 
+#[repr(C)]
+struct PortShown {
+    shown: Shown,
+    byte: u8,
+    status: u8,
+    interrupt: u8,
+    fed: u8,
+}
+
 extern "C" {
     fn xiquepazo_make(image: &mut Image, bits: u8) -> u8;
     fn xiquepazo_make_set_2(image: &mut Image, bits: u8) -> u8;
@@ -159,6 +192,11 @@ extern "C" {
     fn xiquepazo_read(pack: *const u8, length: usize, start: usize) -> Reading;
     fn xiquepazo_frame(image: &mut Image, frame: u16) -> Shown;
     fn xiquepazo_frame_of(byte: u8) -> u16;
+    fn xiquepazo_from_keyboard(image: &mut Image, byte: u8) -> PortShown;
+    fn xiquepazo_read_60(image: &mut Image) -> PortShown;
+    fn xiquepazo_read_64(image: &mut Image) -> PortShown;
+    fn xiquepazo_write_60(image: &mut Image, byte: u8) -> PortShown;
+    fn xiquepazo_write_64(image: &mut Image, byte: u8) -> PortShown;
 }
 
 // Each call is sound for every argument: the library has no `requires`, every image is a service,
@@ -223,19 +261,45 @@ impl Image {
         }
     }
 
-    pub fn input(&mut self, input: &Input) -> Outcome {
-        match input {
+    /// What the keyboard or a program does at the controller.
+    pub fn port(&mut self, event: PortEvent) -> Seen {
+        let shown = match event {
+            PortEvent::FromKeyboard(byte) => unsafe { xiquepazo_from_keyboard(self, byte) },
+            PortEvent::Read60 => unsafe { xiquepazo_read_60(self) },
+            PortEvent::Read64 => unsafe { xiquepazo_read_64(self) },
+            PortEvent::Write60(byte) => unsafe { xiquepazo_write_60(self, byte) },
+            PortEvent::Write64(command) => unsafe { xiquepazo_write_64(self, command) },
+        };
+        shown.into()
+    }
+
+    /// The controller's status, as a program would read it now.
+    pub fn status(&self) -> u8 {
+        let Seen { byte, .. } = self.clone().port(PortEvent::Read64);
+        byte
+    }
+
+    pub fn input(&mut self, input: &Input) -> Seen {
+        let shown = match input {
             Input::Event(event) => self.event(event),
             Input::Frame(frame) => self.frame(*frame),
             Input::Change(set) => self.change(*set),
+            Input::Port(event) => return self.port(*event),
+        };
+        Seen {
+            shown,
+            status: self.status(),
+            byte: 0,
+            interrupt: false,
+            fed: false,
         }
     }
 
     /// Does by the reporting call what an input does, and gives what is reported of it. A change of set
-    /// has no report, and a refused frame feeds nothing that could be told.
+    /// and a port event have no report, and a refused frame feeds nothing that could be told.
     pub fn report_of(&mut self, input: &Input) -> Option<Reported> {
-        if let Input::Change(set) = input {
-            self.change(*set);
+        if matches!(input, Input::Change(_) | Input::Port(_)) {
+            self.input(input);
         }
         let event = input.fed()?;
         let mut text = [0; REPORT_LENGTH];
@@ -243,8 +307,8 @@ impl Image {
         Some(Reported { refusal, text })
     }
 
-    /// Does what an input does, and gives what it shows and what is reported of it.
-    pub fn seen(&mut self, input: &Input) -> (Outcome, Option<Reported>) {
+    /// Does what an input does, and gives what is seen and what is reported of it.
+    pub fn seen(&mut self, input: &Input) -> (Seen, Option<Reported>) {
         let reported = self.clone().report_of(input);
         (self.input(input), reported)
     }
@@ -253,6 +317,16 @@ impl Image {
     pub fn new_like(&self) -> Image {
         let locks = self.flag_bytes()[0] >> 4;
         Image::new_on(self.set(), locks).expect("there are four locks")
+    }
+
+    /// What is shown with this answer where no event is run: flag bytes and `sent` are those of a status
+    /// call.
+    pub fn standing(&self, ans: u8) -> Outcome {
+        Outcome {
+            ans,
+            word: 0x0000,
+            ..self.clone().call(0x02, 0, 0)
+        }
     }
 
     /// What the all-up runs of both ports, E and R leave; gives what this R shows.
@@ -305,13 +379,24 @@ impl Image {
 
     /// The numbers of the scanner's port as they stand, in range or not.
     pub fn scanner(&self) -> [u8; SCANNER_LENGTH] {
-        let (_, scanner) = self.bytes.split_at(place::SCANNER_PREFIX);
-        scanner.try_into().expect("it stands last")
+        let scanner = &self.bytes[place::SCANNER_PREFIX..place::BUFFER];
+        scanner.try_into().expect("the controller stands behind it")
     }
 
     /// Puts another port of the scanner, and leaves all else.
     pub fn put_scanner(&mut self, numbers: [u8; SCANNER_LENGTH]) {
-        self.bytes[place::SCANNER_PREFIX..].copy_from_slice(&numbers);
+        self.bytes[place::SCANNER_PREFIX..place::BUFFER].copy_from_slice(&numbers);
+    }
+
+    /// The numbers of the controller as they stand, in range or not.
+    pub fn controller(&self) -> [u8; CONTROLLER_LENGTH] {
+        let controller = &self.bytes[place::BUFFER..];
+        controller.try_into().expect("it stands last")
+    }
+
+    /// Puts another controller, and leaves all else.
+    pub fn put_controller(&mut self, numbers: [u8; CONTROLLER_LENGTH]) {
+        self.bytes[place::BUFFER..].copy_from_slice(&numbers);
     }
 }
 
@@ -371,4 +456,22 @@ impl From<Shown> for Outcome {
             sent: shown.sent,
         }
     }
+}
+
+impl From<PortShown> for Seen {
+    fn from(shown: PortShown) -> Seen {
+        Seen {
+            shown: shown.shown.into(),
+            status: shown.status,
+            byte: shown.byte,
+            interrupt: is_on(shown.interrupt),
+            fed: is_on(shown.fed),
+        }
+    }
+}
+
+/// The header promises no third number.
+fn is_on(number: u8) -> bool {
+    assert!(number <= 1, "{number} is neither 0 nor 1");
+    number == 1
 }

@@ -9,7 +9,7 @@ mod image;
 mod pair;
 
 pub use image::{
-    codes, flag, frame_of, held, place, prefix, prefix_and_codes, read, Image, Ports, Reading,
-    Reported, Tagged, IMAGE_LENGTH, SCANNER_LENGTH,
+    buffer, codes, command, flag, frame_of, held, place, prefix, prefix_and_codes, read, Image,
+    Ports, Reading, Reported, Tagged, CONTROLLER_LENGTH, IMAGE_LENGTH, SCANNER_LENGTH,
 };
-pub use pair::{ports_due, report_due, with_prefix_and_codes, Pair, PREFIXES};
+pub use pair::{controller_due, ports_due, report_due, with_prefix_and_codes, Pair, PREFIXES};

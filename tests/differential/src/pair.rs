@@ -1,10 +1,11 @@
 //! What the tests hold the library to.
 
-use crate::{codes, held, prefix, prefix_and_codes, Image, Ports, Reported, SCANNER_LENGTH};
-use reference::generator::{random_inputs, Flavour, Random};
+use crate::{buffer, codes, command, held, prefix, prefix_and_codes};
+use crate::{Image, Ports, Reported, CONTROLLER_LENGTH, SCANNER_LENGTH};
+use reference::generator::{in_turn, random_inputs, Flavour, Random};
 use reference::prefix::Prefix;
-use reference::{flags, report};
-use reference::{CodeSet, Device, Event, Input, Outcome, Port, Service, Translation};
+use reference::{flags, report, OutputBuffer, Seen};
+use reference::{CodeSet, Controller, Device, Event, Input, Outcome, Port, Service, Translation};
 
 /// The numbers of the prefixes, each with the bytes of set 1 that open it.
 pub const PREFIXES: [(u8, &[u8]); 5] = [
@@ -14,6 +15,9 @@ pub const PREFIXES: [(u8, &[u8]); 5] = [
     (prefix::E1_1D, &[0xE1, 0x1D]),
     (prefix::E1_9D, &[0xE1, 0x9D]),
 ];
+
+/// The bit of the status that says that the last accepted write went to port 64.
+const COMMANDED: u8 = 0x08;
 
 /// One service, as the library and as the reference has it.
 #[derive(Clone)]
@@ -31,6 +35,13 @@ impl Pair {
         }
     }
 
+    /// After a list for a service newly made, with the set and the locks of that.
+    pub fn after((set, locks, inputs): (CodeSet, u8, Vec<Input>)) -> Pair {
+        let mut pair = Pair::new_on(set, locks);
+        pair.inputs(&inputs);
+        pair
+    }
+
     /// After up to 59 random inputs.
     pub fn used(random: &mut Random, flavour: Flavour, set: CodeSet, locks: u8) -> Pair {
         let mut pair = Pair::new_on(set, locks);
@@ -41,6 +52,16 @@ impl Pair {
         pair
     }
 
+    /// So many services after random lists, each with the random numbers that go on.
+    pub fn each_used(seed: u64, services: usize, mut check: impl FnMut(&Pair, &mut Random)) {
+        let mut random = Random::new(seed);
+        for service in 0..services {
+            let (flavour, set, locks) = in_turn(service);
+            let used = Pair::used(&mut random, flavour, set, locks);
+            check(&used, &mut random);
+        }
+    }
+
     pub fn event(&mut self, event: &Event) {
         self.input(&Input::Event(*event));
     }
@@ -49,12 +70,21 @@ impl Pair {
         events.iter().for_each(|event| self.event(event));
     }
 
-    /// Both show the same, and have the same ports, set and mark after it.
-    pub fn input(&mut self, input: &Input) {
+    /// The same is seen of both, and both have the same ports, set, mark and controller after it.
+    pub fn input(&mut self, input: &Input) -> Seen {
         let expected = self.service.input(input);
         assert_eq!(self.image.input(input), expected, "{input:X?}");
         let ports = self.image.ports();
         assert_eq!(ports, ports_due(&self.service), "{input:X?}");
+        let due = controller_due(self.service.controller());
+        assert_eq!(self.image.controller(), due, "{input:X?}");
+        expected
+    }
+
+    pub fn inputs(&mut self, inputs: &[Input]) {
+        for input in inputs {
+            self.input(input);
+        }
     }
 }
 
@@ -104,6 +134,25 @@ fn scanner_due(port: &Port) -> [u8; SCANNER_LENGTH] {
             | moved(byte_18, flags::CAPS, held::CAPS),
         moved(byte_18, flags::INSERT, 1),
         moved(byte_18, flags::SYSREQ_HELD, 1),
+    ]
+}
+
+/// The numbers that are to stand for a controller of the reference.
+pub fn controller_due(controller: &Controller) -> [u8; CONTROLLER_LENGTH] {
+    let (buffer, buffered) = match controller.buffer() {
+        OutputBuffer::Empty => (buffer::EMPTY, controller.last_byte()),
+        OutputBuffer::Key(byte) => (buffer::KEY, byte),
+        OutputBuffer::Answer(byte) => (buffer::ANSWER, byte),
+    };
+    [
+        buffer,
+        buffered,
+        controller.command_byte() ^ command::TURNED,
+        u8::from(controller.awaits_command_byte()),
+        u8::from(controller.status() & COMMANDED != 0),
+        0,
+        0,
+        0,
     ]
 }
 

@@ -1,39 +1,43 @@
 //! Every input through the library shows what the reference shows: answer, word, flag bytes, bytes
-//! sent, refusal and the 44 bytes of its report, and leaves its ports, its code set and its mark. Run
-//! alone or with its report, an event leaves the same image, whether it came by itself or as a frame; a
+//! sent, refusal and the 44 bytes of its report, and at the controller's ports the byte read, the status,
+//! the interrupt and whether a key was fed. It leaves the reference's ports, code set, mark and controller.
+//! Run alone or with its report, an event leaves the same image, whether it came by itself or as a frame; a
 //! refused frame leaves the image it found. The first four bytes of the image are the flag bytes.
 //!
 //! The lists are random, of every flavour, from either code set and from every setting of the locks, with
-//! bytes of the scanner, frames and changes of set among their events, and then those of the reference's
-//! generator, which try each rule. Where the two sides differ, the list is cut down to inputs that are all
-//! needed to see it.
+//! bytes of the scanner, frames, changes of set and port events among their events, and then those of the
+//! reference's generator, which try each rule. Where the two sides differ, the list is cut down to inputs
+//! that are all needed to see it.
 
-use differential::{ports_due, report_due, Image, Pair, Ports, Reported};
+use differential::{
+    controller_due, ports_due, report_due, Image, Pair, Ports, Reported, CONTROLLER_LENGTH,
+};
 use reference::generator::{packs, random_inputs, Flavour, Random, FLAVOURS};
 use reference::vectors::to_hex;
-use reference::{read_event, CodeSet, Event, Input, Outcome, Service, CODE_SETS};
+use reference::{read_event, CodeSet, Event, Input, Seen, Service, CODE_SETS};
 use std::{fmt, thread};
 
 /// Random lists of each flavour from each setting of the locks, on either set in turn: how many, and
 /// their lengths.
-const LISTS: [(usize, usize, usize); 3] = [(400, 1, 60), (40, 100, 600), (1, 30_000, 30_000)];
+const LISTS: [(usize, usize, usize); 3] = [(320, 1, 60), (28, 100, 600), (1, 20_000, 20_000)];
 const LEAST_INPUTS: usize = 2_000_000;
 
-/// What is seen of one input.
+/// What is compared at one input.
 #[derive(PartialEq, Eq)]
-struct Seen {
-    outcome: Outcome,
+struct Compared {
+    seen: Seen,
     flags: [u8; 4],
     ports: Ports,
+    controller: [u8; CONTROLLER_LENGTH],
     reported: Option<Reported>,
 }
 
-impl fmt::Display for Seen {
+impl fmt::Display for Compared {
     fn fmt(&self, formatter: &mut fmt::Formatter) -> fmt::Result {
         write!(
             formatter,
-            "{:X?}, then flags {:X?}, {:X?}; ",
-            self.outcome, self.flags, self.ports
+            "{:X?}, then flags {:X?}, {:X?}, controller {:X?}; ",
+            self.seen, self.flags, self.ports, self.controller
         )?;
         match &self.reported {
             None => write!(formatter, "no report"),
@@ -45,20 +49,21 @@ impl fmt::Display for Seen {
     }
 }
 
-fn seen_of_reference(service: &mut Service, input: &Input) -> Seen {
-    let outcome = service.input(input);
-    Seen {
-        outcome,
+fn of_reference(service: &mut Service, input: &Input) -> Compared {
+    let seen = service.input(input);
+    Compared {
+        seen,
         flags: service.flag_bytes(),
         ports: ports_due(service),
-        reported: report_due(input, &outcome),
+        controller: controller_due(service.controller()),
+        reported: report_due(input, &seen.shown),
     }
 }
 
 /// Runs the input by both calls that can, from the same image, and holds them to each other.
-fn seen_of_library(image: &mut Image, input: &Input) -> Result<Seen, String> {
+fn of_library(image: &mut Image, input: &Input) -> Result<Compared, String> {
     let mut with_report = image.clone();
-    let outcome = image.input(input);
+    let seen = image.input(input);
     let reported = with_report.report_of(input);
     if with_report != *image {
         return Err("leaves another image than `report` of what it feeds".to_string());
@@ -66,10 +71,11 @@ fn seen_of_library(image: &mut Image, input: &Input) -> Result<Seen, String> {
     if image.first_bytes() != image.flag_bytes() {
         return Err("the image does not begin with its flag bytes".to_string());
     }
-    Ok(Seen {
-        outcome,
+    Ok(Compared {
+        seen,
         flags: image.flag_bytes(),
         ports: image.ports(),
+        controller: image.controller(),
         reported,
     })
 }
@@ -84,8 +90,8 @@ fn difference((set, locks): Start, inputs: &[Input]) -> Option<(usize, String)> 
         mut service,
     } = Pair::new_on(set, locks);
     for (place, input) in inputs.iter().enumerate() {
-        let reference = seen_of_reference(&mut service, input);
-        match seen_of_library(&mut image, input) {
+        let reference = of_reference(&mut service, input);
+        match of_library(&mut image, input) {
             Ok(library) if library == reference => {}
             Ok(library) => {
                 let how = format!("library:   {library}\nreference: {reference}");
@@ -118,27 +124,47 @@ fn assert_agrees(start: Start, inputs: &[Input]) {
     };
     let inputs = cut_down(start, &inputs[..=last]);
     let how = difference(start, &inputs).map(|(_, how)| how);
-    let mut pack = Vec::new();
-    let fed = inputs.iter().filter_map(Input::fed);
-    fed.for_each(|event| event.write(&mut pack));
-    let pack = to_hex(&pack);
+    let pack = to_hex(&pack_fed(start, &inputs));
     let (set, locks) = start;
     panic!(
-        "from set {set:?} and locks {locks}, the list {inputs:X?}, which but for changes of set feeds \
-         the pack {pack}, ends in a difference\n{}",
+        "from set {set:?} and locks {locks}, the list {inputs:X?}, which but for changes of set and \
+         other port events feeds the pack {pack}, ends in a difference\n{}",
         how.unwrap_or_default()
     );
 }
 
-fn is_scan(input: &&Input) -> bool {
-    matches!(input, Input::Event(Event::Scan(_)))
+/// The events that reach the reference, also those that are read at port 60.
+fn pack_fed((set, locks): Start, inputs: &[Input]) -> Vec<u8> {
+    let Pair { mut service, .. } = Pair::new_on(set, locks);
+    let ran = |input: &Input| input.ran(&service.input(input));
+    let mut pack = Vec::new();
+    let events = inputs.iter().filter_map(ran);
+    events.for_each(|event| event.write(&mut pack));
+    pack
 }
 
-/// Compares random lists of one flavour. Counts their inputs, and those of them that are bytes of the
-/// scanner.
-fn compare_random_lists(flavour: Flavour) -> (usize, usize) {
+/// How many inputs were compared, and how many of them were bytes of the scanner and port events.
+#[derive(Debug, Default)]
+struct Counts {
+    inputs: usize,
+    scans: usize,
+    port_events: usize,
+}
+
+impl Counts {
+    fn add(&mut self, inputs: &[Input]) {
+        self.inputs += inputs.len();
+        for input in inputs {
+            self.scans += usize::from(matches!(input, Input::Event(Event::Scan(_))));
+            self.port_events += usize::from(matches!(input, Input::Port(_)));
+        }
+    }
+}
+
+/// Compares random lists of one flavour.
+fn compare_random_lists(flavour: Flavour) -> Counts {
     let mut random = Random::new(0x0D1F + flavour as u64);
-    let (mut count, mut scans) = (0, 0);
+    let mut counts = Counts::default();
     for locks in 0..16 {
         for (lists, shortest, longest) in LISTS {
             for list in 0..lists {
@@ -146,12 +172,11 @@ fn compare_random_lists(flavour: Flavour) -> (usize, usize) {
                 let length = random.between(shortest, longest);
                 let inputs = random_inputs(&mut random, flavour, set, length);
                 assert_agrees((set, locks), &inputs);
-                count += inputs.len();
-                scans += inputs.iter().filter(is_scan).count();
+                counts.add(&inputs);
             }
         }
     }
-    (count, scans)
+    counts
 }
 
 #[test]
@@ -160,14 +185,17 @@ fn random_lists_agree() {
         let start = |flavour| scope.spawn(move || compare_random_lists(flavour));
         FLAVOURS.map(start).map(|thread| thread.join().unwrap())
     });
-    let count: usize = counts.iter().map(|(inputs, _)| inputs).sum();
-    let scans: usize = counts.iter().map(|(_, scans)| scans).sum();
+    let sum = |part: fn(&Counts) -> usize| -> usize { counts.iter().map(part).sum() };
+    let inputs = sum(|counts| counts.inputs);
+    let scans = sum(|counts| counts.scans);
+    let port_events = sum(|counts| counts.port_events);
     println!(
-        "{count} events, frames and changes of set of random lists agree, {scans} bytes of the scanner \
-         among them"
+        "{inputs} inputs of random lists agree, {scans} bytes of the scanner and {port_events} port \
+         events among them"
     );
-    assert!(count >= LEAST_INPUTS);
-    assert!(scans > count / 20, "the scanner types in many places");
+    assert!(inputs >= LEAST_INPUTS);
+    assert!(scans > inputs / 20, "the scanner types in many places");
+    assert!(port_events > inputs / 10, "the ports are much used");
 }
 
 /// The events of a pack, up to its end or refusal.

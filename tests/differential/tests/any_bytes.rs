@@ -1,23 +1,24 @@
-//! Any 72 bytes are a service: no image makes a call fail, or answer otherwise a second time. What a
+//! Any 80 bytes are a service: no image makes a call fail, or answer otherwise a second time. What a
 //! call leaves is in the one form that the library writes, with every number in its range, and shows
 //! the same as what was lent; its first four bytes are the flag bytes that the call showed. Bits that
 //! the header says are not read change nothing. A refused call or frame leaves every bit as it was lent.
 
 use differential::place::*;
 use differential::{
-    codes, flag, held, prefix, prefix_and_codes, report_due, with_prefix_and_codes,
+    buffer, codes, flag, held, prefix, prefix_and_codes, report_due, with_prefix_and_codes,
 };
 use differential::{Image, Pair, IMAGE_LENGTH};
 use reference::generator::{in_turn, random_inputs, Random, FLAVOURS};
 use reference::{CodeSet, Event, Input, CODE_SETS};
 
 const IMAGES: usize = 200_000;
-const EVENTS: usize = 10;
+const EVENTS: usize = 7;
 /// Services that have every number put at the place of prefix and codes.
 const SERVICES: usize = 320;
 
-/// The most that numbers of one byte are read as; words and the Alt sums may be anything.
-const MOST: [(usize, u8); 8] = [
+/// The most that numbers of one byte are read as; words, the Alt sums and the controller's bytes may be
+/// anything.
+const MOST: [(usize, u8); 10] = [
     (RATE_KNOWN, 1),
     (HANDLED_KNOWN, 1),
     (KIND, 1),
@@ -26,6 +27,8 @@ const MOST: [(usize, u8); 8] = [
     (SENT, 6),
     (SCANNER_INSERT, 1),
     (SCANNER_SYSREQ, 1),
+    (AWAITING, 1),
+    (COMMANDED, 1),
 ];
 /// The most that the number of queued words is read as.
 const MOST_COUNT: u64 = 15;
@@ -34,6 +37,7 @@ const MOST_COUNT: u64 = 15;
 const LARGEST_PREFIX: u8 = prefix::E1_9D;
 const LARGEST_CODES: u8 = codes::SET_2_MARKED;
 const LARGEST_PHASE: u8 = 2;
+const LARGEST_BUFFER: u8 = buffer::ANSWER;
 const LARGEST_HEAD: u64 = 14;
 
 /// Numbers of eight bytes: some in range, some just out of it, and some with a bit far above.
@@ -117,6 +121,7 @@ fn unread(bytes: &[u8; IMAGE_LENGTH]) -> [u8; IMAGE_LENGTH] {
     }
     bits[SCANNER_SHIFT..=SCANNER_ALT].fill(!(held::RIGHT | held::LEFT));
     bits[SCANNER_LOCKS] = !(held::SCROLL | held::NUM | held::CAPS);
+    bits[SPARE..].fill(0xFF);
     bits
 }
 
@@ -166,6 +171,7 @@ fn meant(image: &Image) -> Image {
     bytes[PREFIX_AND_CODES] = prefix_and_codes(prefix, codes);
     bytes[SCANNER_PREFIX] = in_range(bytes[SCANNER_PREFIX], LARGEST_PREFIX);
     bytes[PHASE] = in_range(bytes[PHASE], LARGEST_PHASE);
+    bytes[BUFFER] = in_range(bytes[BUFFER], LARGEST_BUFFER);
     let head = in_range(number_at(bytes, HEAD), LARGEST_HEAD);
     put_number(bytes, HEAD, head);
     let count = number_at(bytes, COUNT).min(MOST_COUNT);
@@ -206,14 +212,16 @@ fn check_input(image: &mut Image, input: &Input, random: &mut Random) {
     assert_eq!(formed.flag_bytes(), formed.first_bytes());
     assert_eq!(other.flag_bytes(), formed.first_bytes());
 
-    let outcome = image.input(input);
-    assert_eq!(again.input(input), outcome);
+    let seen = image.input(input);
+    let outcome = seen.shown;
+    assert_eq!(again.input(input), seen);
     assert_eq!(again, *image);
     assert_eq!(image.flag_bytes(), outcome.flags);
-    assert_eq!(formed.input(input), outcome);
+    assert_eq!(image.status(), seen.status);
+    assert_eq!(formed.input(input), seen);
     assert_eq!(formed.first_bytes(), outcome.flags);
-    assert_eq!(other.input(input), outcome);
-    if outcome.ans < 0x80 {
+    assert_eq!(other.input(input), seen);
+    if !seen.is_refused() {
         assert_eq!(*image, meant(image));
         assert_eq!(image.first_bytes(), outcome.flags);
         assert_eq!(formed, *image);

@@ -4,7 +4,7 @@
 
 use differential::place::*;
 use differential::{held, Image, Pair, PREFIXES, SCANNER_LENGTH};
-use reference::generator::{in_turn, random_inputs, Flavour, Random};
+use reference::generator::{random_inputs, Flavour, Random};
 use reference::{CodeSet, Device, Event, Input, Port, Service};
 
 /// Services that are tried with every number at each place, and with so many random ports.
@@ -91,21 +91,11 @@ fn check(used: &Pair, numbers: [u8; SCANNER_LENGTH], random: &mut Random) {
     }
 }
 
-/// Services after random lists, each with the random numbers that go on.
-fn each_used(mut check: impl FnMut(&Pair, &mut Random)) {
-    let mut random = Random::new(0x5CA);
-    for service in 0..SERVICES {
-        let (flavour, set, locks) = in_turn(service);
-        let used = Pair::used(&mut random, flavour, set, locks);
-        check(&used, &mut random);
-    }
-}
-
 /// At the place of the sum with Alt down, and at that of Alt with no sum: no event leaves a sum without
 /// Alt, so the reference has no such port.
 #[test]
 fn any_number_stands_at_each_place() {
-    each_used(|used, random| {
+    Pair::each_used(0x5CA, SERVICES, |used, random| {
         for place in SCANNER_PREFIX..=SCANNER_SYSREQ {
             for number in 0..=255 {
                 let mut image = used.image.clone();
@@ -125,7 +115,7 @@ fn any_number_stands_at_each_place() {
 
 #[test]
 fn any_numbers_stand_together() {
-    each_used(|used, random| {
+    Pair::each_used(0x5CA, SERVICES, |used, random| {
         for _ in 0..RANDOM_PORTS {
             let largest = random.pick(&[1, 4, 7, 255]);
             let mut image = used.image.clone();

@@ -69,7 +69,7 @@ fn every_number_is_read_as_the_reference_reads_it() {
         for inputs in TRANSLATIONS {
             let mut pair = Pair::new_on(CodeSet::One, (3 * place % 16) as u8);
             events.iter().for_each(|event| pair.event(event));
-            inputs.iter().for_each(|input| pair.input(input));
+            pair.inputs(inputs);
             (0..=u16::MAX).for_each(|frame| assert_read(&pair, frame));
         }
     }

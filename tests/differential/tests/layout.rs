@@ -1,7 +1,8 @@
 //! Every number of a service stands where the header says, and every flag in its bit: events that
 //! change few of them change the bytes at their places and no others. A flag is read from the bit
 //! that it is written to, and the other bits of the flag bytes are not read. The same holds for the
-//! numbers of the scanner's port, of which the flag bytes show nothing.
+//! numbers of the scanner's port, of which the flag bytes show nothing. Those of the controller have a
+//! file of their own.
 
 use differential::codes::{SET_1, SET_2, SET_2_MARKED};
 use differential::flag::*;

@@ -2,10 +2,13 @@
 //! the report of a call refused by 2 to 5, which is told like any other event. A call that is run
 //! changes the image and the first 44 bytes of the buffer, and nothing before, between or behind.
 
-use differential::{Image, Pair, Tagged, IMAGE_LENGTH, SCANNER_LENGTH};
+use differential::place::{AWAITING, BUFFER, COMMAND_BYTE, SPARE};
+use differential::{command, Image, Pair, Tagged, IMAGE_LENGTH, SCANNER_LENGTH};
 use reference::frame::{PARITY_BIT, STOP_BIT};
 use reference::generator::{random_events, random_inputs, random_lists, Random, FLAVOURS};
-use reference::{report, write_frame, CodeSet, Event, Input, Outcome, CODE_SETS, REPORT_LENGTH};
+use reference::PortEvent::{FromKeyboard, Write60, Write64};
+use reference::{report, write_frame};
+use reference::{CodeSet, Event, Outcome, CODE_SETS, REPORT_LENGTH};
 use std::collections::BTreeSet;
 
 /// Services in use that each refusal is tried on.
@@ -22,14 +25,16 @@ const FUNCTIONS: [u8; 8] = [0x00, 0x10, 0x01, 0x11, 0x02, 0x12, 0x03, 0x05];
 
 /// Services after random lists of every flavour, from either code set and every setting of the locks.
 fn services_in_use() -> Vec<Pair> {
-    let in_use = |(set, locks, inputs): (CodeSet, u8, Vec<Input>)| {
-        let mut pair = Pair::new_on(set, locks);
-        inputs.iter().for_each(|input| pair.input(input));
-        pair
-    };
-    let services: Vec<Pair> = random_lists(9, SERVICES, 149).map(in_use).collect();
+    let services: Vec<Pair> = random_lists(9, SERVICES, 149).map(Pair::after).collect();
     let is_used = |number: usize| services.iter().any(|pair| pair.image.scanner()[number] > 0);
     assert!((0..SCANNER_LENGTH).all(is_used), "scanners were used");
+    // The numbers behind these mean nothing.
+    let is_used = |number: usize| {
+        services
+            .iter()
+            .any(|pair| pair.image.controller()[number] > 0)
+    };
+    assert!((0..SPARE - BUFFER).all(is_used), "so were controllers");
     services
 }
 
@@ -74,17 +79,8 @@ fn assert_call_refused(pair: &Pair, (function, a, b): (u8, u8, u8), refusal: u8)
     assert_reported(pair, &event, REPORT_LENGTH + 13, refusal);
 }
 
-/// What a refusal that runs no event shows: flag bytes and `sent` are those of a status call.
-fn standing(pair: &Pair, refusal: u8) -> Outcome {
-    Outcome {
-        ans: 0x80 + refusal,
-        word: 0,
-        ..pair.image.clone().call(0x02, 0, 0)
-    }
-}
-
 fn assert_frames_refused(pair: &Pair, frames: impl Iterator<Item = u16>, refusal: u8) {
-    let expected = standing(pair, refusal);
+    let expected = pair.image.standing(0x80 + refusal);
     let mut image = pair.image.clone();
     for frame in frames {
         assert_eq!(image.frame(frame), expected, "{frame:011b}");
@@ -147,7 +143,7 @@ fn refusal_5_keeps_every_byte() {
 #[test]
 fn refusal_6_keeps_every_byte() {
     for pair in services_in_use() {
-        let expected = standing(&pair, 6);
+        let expected = pair.image.standing(0x86);
         for tag in (0..=255).filter(|tag| !TAGS.contains(tag)) {
             let operands = [tag, 0x00, 0xFF];
             let event = Tagged { tag, operands };
@@ -218,8 +214,9 @@ fn refusal_of(outcome: Outcome) -> u8 {
 /// A call that gives the refusal it met.
 type Refused = fn(&mut Image) -> u8;
 
-/// Calls, each with the refusal it meets where the queue is full.
-const REFUSED: [(u8, Refused); 12] = [
+/// Calls, each with the refusal it meets where the queue is full, the keyboard disabled and no command
+/// byte awaited.
+const REFUSED: [(u8, Refused); 15] = [
     (1, |image| image.make_on(CodeSet::One, 16)),
     (1, |image| image.make_on(CodeSet::Two, 255)),
     (2, |image| refusal_of(image.call(0x53, 0, 0))),
@@ -240,9 +237,12 @@ const REFUSED: [(u8, Refused); 12] = [
     (11, |image| refusal_of(image.frame(1))),
     (12, |image| refusal_of(image.frame(0))),
     (13, |image| refusal_of(image.frame(1 << PARITY_BIT))),
+    (14, |image| refusal_of(image.port(FromKeyboard(0x1E)).shown)),
+    (15, |image| refusal_of(image.port(Write64(0xA7)).shown)),
+    (16, |image| refusal_of(image.port(Write60(0x01)).shown)),
 ];
 
-/// Numbers that no call would leave are kept too, at each of the 72 bytes.
+/// Numbers that no call would leave are kept too, at each of the 80 bytes.
 #[test]
 fn refused_calls_keep_any_bytes() {
     let mut random = Random::new(47);
@@ -250,6 +250,8 @@ fn refused_calls_keep_any_bytes() {
         let mut bytes = [0; IMAGE_LENGTH];
         // A count above 15 is read as 15.
         bytes.fill_with(|| random.between(16, 255) as u8);
+        bytes[COMMAND_BYTE] |= command::DISABLED;
+        bytes[AWAITING] = 0;
         let lent = Image { bytes };
         for (refusal, call) in REFUSED {
             let mut image = lent.clone();
@@ -336,7 +338,7 @@ struct Spaced {
     gap: [u8; GAP],
 }
 
-const GAP: usize = 2 * ALIGNMENT;
+const GAP: usize = ALIGNMENT;
 
 /// Images in a row stand at addresses of every kind that the alignment allows. Each in turn is given a
 /// list; it shows what an image that stands alone shows, and the others and the gaps are kept.

@@ -3,18 +3,18 @@
 //! is as new, and after that of one port alone it need not be. Whatever numbers are a port's own, they have
 //! no part in what is not.
 
-use differential::place::{ALT_SUM, PREFIX_AND_CODES, RATE_KNOWN, SCANNER_PREFIX};
-use differential::{flag, Image, Pair, PREFIXES, SCANNER_LENGTH};
+use differential::place::{ALT_SUM, BUFFER, PREFIX_AND_CODES, RATE_KNOWN, SCANNER_PREFIX};
+use differential::{flag, Image, Pair, IMAGE_LENGTH, PREFIXES, SCANNER_LENGTH};
 use reference::generator::{
     all_up_events, all_up_run, in_turn, random_inputs, random_lists, typed_on, Random,
 };
 use reference::written::events;
 use reference::Event::{self, Call, Empty, Key, Restart, Scan};
-use reference::{CodeSet, Device, Input, Outcome, CODE_SETS, DEVICES};
+use reference::{CodeSet, Device, Input, Seen, CODE_SETS, DEVICES};
 
 const LISTS: usize = 4_000;
 const LONGEST: usize = 200;
-const FURTHER: usize = 80;
+const FURTHER: usize = 50;
 
 /// What both ports did before, in the codes of set 1.
 const BEFORE: [&str; 3] = [
@@ -131,12 +131,8 @@ fn every_byte_agrees_at_every_place_of_every_prefix() {
 
 /// Services after random lists, which agree, each with the number of its list.
 fn used_pairs(seed: u64) -> impl Iterator<Item = (usize, Pair)> {
-    let lists = random_lists(seed, LISTS, LONGEST).enumerate();
-    lists.map(|(number, (set, locks, inputs))| {
-        let mut pair = Pair::new_on(set, locks);
-        inputs.iter().for_each(|input| pair.input(input));
-        (number, pair)
-    })
+    let lists = random_lists(seed, LISTS, LONGEST);
+    lists.map(Pair::after).enumerate()
 }
 
 /// The library's alone.
@@ -292,8 +288,9 @@ fn nothing_else_depends_on_the_scanner() {
         for input in inputs.iter().filter(|input| !is_scan(input)) {
             assert_eq!(one.flag_bytes(), other.flag_bytes());
             assert_eq!(one.seen(input), other.seen(input), "{input:X?}");
-            let first = 0..SCANNER_PREFIX;
-            assert_eq!(one.bytes[first.clone()], other.bytes[first], "{input:X?}");
+            for beside in [0..SCANNER_PREFIX, BUFFER..IMAGE_LENGTH] {
+                assert_eq!(one.bytes[beside.clone()], other.bytes[beside], "{input:X?}");
+            }
             assert_eq!(in_form(&other).scanner(), scanner, "{input:X?}");
             count += 1;
         }
@@ -313,23 +310,24 @@ fn with_any_keyboard(random: &mut Random, image: &Image) -> Image {
     other
 }
 
-/// Whether an input comes from the keyboard's keys, or says of which set they are. A reply is for the line.
-fn is_of_the_keyboard(input: &Input) -> bool {
-    match input.fed() {
+/// Whether an input feeds a key of the keyboard to this service, or says of which set they are. A reply is
+/// for the line.
+fn is_of_the_keyboard(input: &Input, image: &Image) -> bool {
+    match input.ran(&image.clone().input(input)) {
         Some(Key(byte)) => !matches!(byte, 0xFA | 0xFE),
         _ => matches!(input, Input::Change(_)),
     }
 }
 
-/// What an input shows beside the keyboard's own bits. A status is made of these and of the locks.
-fn beside_the_keyboard(input: &Input, mut shown: Outcome) -> Outcome {
-    for (byte, shared) in shown.flags.iter_mut().zip(flag::SHARED) {
+/// What is seen of an input beside the keyboard's own bits. A status is made of these and of the locks.
+fn beside_the_keyboard(input: &Input, mut seen: Seen) -> Seen {
+    for (byte, shared) in seen.shown.flags.iter_mut().zip(flag::SHARED) {
         *byte &= shared;
     }
     if let Some(Call(0x02 | 0x12, ..)) = input.fed() {
-        shown.word &= u16::from(flag::SHARED[0]);
+        seen.shown.word &= u16::from(flag::SHARED[0]);
     }
-    shown
+    seen
 }
 
 /// What is the keyboard's own, in the form that the library writes.
@@ -351,9 +349,12 @@ fn nothing_else_depends_on_the_keyboard() {
         let inputs = further(&mut random, number, &one);
         let mut other = with_any_keyboard(&mut random, &one);
         let keyboard = keyboard_of(&other);
-        for input in inputs.iter().filter(|input| !is_of_the_keyboard(input)) {
-            let shown = [one.input(input), other.input(input)];
-            let [of_one, of_other] = shown.map(|shown| beside_the_keyboard(input, shown));
+        for input in &inputs {
+            if is_of_the_keyboard(input, &one) {
+                continue;
+            }
+            let seen = [one.input(input), other.input(input)];
+            let [of_one, of_other] = seen.map(|seen| beside_the_keyboard(input, seen));
             assert_eq!(of_one, of_other, "{input:X?}");
             assert_eq!(one.bytes[RATE_KNOWN..], other.bytes[RATE_KNOWN..]);
             assert_eq!(keyboard_of(&other), keyboard, "{input:X?}");

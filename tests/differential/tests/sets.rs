@@ -7,7 +7,7 @@ use differential::place::{BYTE_17, PREFIX_AND_CODES};
 use differential::{codes, prefix, prefix_and_codes, Image, Pair, IMAGE_LENGTH, PREFIXES};
 use reference::generator::all_up_events;
 use reference::Event::{self, Call, Empty, Key, Poll, Restart, Scan};
-use reference::{CodeSet, Input, Outcome, CODE_SETS, DEVICES};
+use reference::{CodeSet, Input, CODE_SETS, DEVICES};
 
 /// What brings a new service on set 1 into use, each another part of it.
 const USES: [&[Event]; 14] = [
@@ -68,22 +68,13 @@ fn services() -> Vec<Pair> {
                 let mut pair = Pair::new_on(CodeSet::One, (7 * place % 16) as u8);
                 used.iter().for_each(|event| pair.event(event));
                 bytes.iter().for_each(|&byte| pair.event(&Key(byte)));
-                inputs.iter().for_each(|input| pair.input(input));
+                pair.inputs(inputs);
                 assert_eq!((pair.image.prefix(), pair.image.codes()), (prefix, codes));
                 services.push(pair);
             }
         }
     }
     services
-}
-
-/// What a change of set shows: flag bytes and `sent` are those of a status call.
-fn standing(image: &Image) -> Outcome {
-    Outcome {
-        ans: 0x00,
-        word: 0x0000,
-        ..image.clone().call(0x02, 0, 0)
-    }
 }
 
 /// The bytes of an image with other codes to come.
@@ -132,7 +123,7 @@ fn every_change_writes_half_a_byte() {
     for pair in services() {
         for set in CODE_SETS {
             let mut changed = pair.clone();
-            let expected = standing(&pair.image);
+            let expected = pair.image.standing(0x00);
             assert_eq!(changed.image.change(set), expected);
             assert_eq!(changed.service.change(set), expected);
             assert_eq!(changed.image, with_codes(&pair.image, codes_of(set)));
@@ -153,7 +144,7 @@ fn a_mark_writes_half_a_byte() {
     for pair in services() {
         if pair.image.codes() != codes::SET_1 {
             let mut marked = pair.image.clone();
-            assert_eq!(marked.key(0xF0), standing(&pair.image));
+            assert_eq!(marked.key(0xF0), pair.image.standing(0x00));
             assert_eq!(marked, with_codes(&pair.image, codes::SET_2_MARKED));
         }
     }

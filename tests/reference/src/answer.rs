@@ -33,6 +33,10 @@ pub const START_BEYOND_PACK: u8 = 10;
 pub const BAD_START_BIT: u8 = 11;
 pub const BAD_PARITY_BIT: u8 = 12;
 pub const BAD_STOP_BIT: u8 = 13;
+/// The buffer is full, or the keyboard disabled.
+pub const KEYBOARD_BYTE_NOT_TAKEN: u8 = 14;
+pub const UNKNOWN_COMMAND: u8 = 15;
+pub const COMMAND_BYTE_NOT_AWAITED: u8 = 16;
 
 /// What an event answers: the number and the word shown with it.
 #[derive(Clone, Copy, Debug, PartialEq, Eq)]

@@ -6,6 +6,7 @@
 //! kept packs with their names and texts.
 
 pub mod answer;
+pub mod controller;
 pub mod flags;
 pub mod frame;
 pub mod generator;
@@ -24,8 +25,9 @@ pub mod translation;
 pub mod vectors;
 pub mod written;
 
+pub use controller::{Controller, OutputBuffer, PortEvent};
 pub use frame::{read_frame, write_frame};
-pub use input::{set_after, Input};
+pub use input::{set_after, Input, Seen};
 pub use pack::{read_event, Device, Event, DEVICES, MAXIMUM_PACK};
 pub use port::Port;
 pub use report::{report, trace, REPORT_LENGTH};

@@ -1,8 +1,9 @@
-//! The service: two ports, queue and line brought together, one event at a time.
+//! The service: two ports, queue, line and controller brought together, one event at a time.
 
 use crate::answer::{self, Answer};
+use crate::controller::{Controller, Effect, PortEvent};
 use crate::frame::read_frame;
-use crate::input::Input;
+use crate::input::{Input, Seen};
 use crate::line::Line;
 use crate::pack::{Device, Event};
 use crate::port::Port;
@@ -30,6 +31,7 @@ pub struct Service {
     scanner: Port,
     shared: Shared,
     line: Line,
+    controller: Controller,
 }
 
 impl Service {
@@ -58,6 +60,7 @@ impl Service {
             scanner: Port::new(),
             shared: Shared::new(0),
             line: Line::new(),
+            controller: Controller::new(),
         }
     }
 
@@ -87,7 +90,7 @@ impl Service {
     pub fn frame(&mut self, frame: u16) -> Outcome {
         match read_frame(frame) {
             Ok(byte) => self.event(&Event::Key(byte)),
-            Err(refusal) => self.outcome(Answer::refused(refusal), self.line.sent()),
+            Err(refusal) => self.standing(Answer::refused(refusal)),
         }
     }
 
@@ -95,15 +98,31 @@ impl Service {
     /// the set stays; the string of a prefix may go on in the codes of the other set.
     pub fn change(&mut self, set: CodeSet) -> Outcome {
         self.translation = Translation::new(set);
-        self.outcome(Answer::plain(answer::NOTHING), self.line.sent())
+        self.standing(Answer::plain(answer::NOTHING))
     }
 
-    pub fn input(&mut self, input: &Input) -> Outcome {
-        match *input {
+    /// What the keyboard or a program does at the controller. A key that is read there is fed as its event,
+    /// and only now translated: the program reads what the keyboard sent.
+    pub fn port_event(&mut self, event: &PortEvent) -> Seen {
+        let effect = self.controller.port_event(*event);
+        let shown = match effect {
+            Ok(Effect {
+                byte, fed: true, ..
+            }) => self.event(&Event::Key(byte)),
+            Ok(_) => self.standing(Answer::plain(answer::NOTHING)),
+            Err(refusal) => self.standing(Answer::refused(refusal)),
+        };
+        self.seen(shown, effect.unwrap_or_default())
+    }
+
+    pub fn input(&mut self, input: &Input) -> Seen {
+        let shown = match *input {
             Input::Event(event) => self.event(&event),
             Input::Frame(frame) => self.frame(frame),
             Input::Change(set) => self.change(set),
-        }
+            Input::Port(event) => return self.port_event(&event),
+        };
+        self.seen(shown, Effect::default())
     }
 
     /// Runs an event and writes its report at the start of the buffer.
@@ -153,6 +172,15 @@ impl Service {
         self
     }
 
+    pub fn controller(&self) -> &Controller {
+        &self.controller
+    }
+
+    /// The same service with another controller.
+    pub fn with_controller(self, controller: Controller) -> Service {
+        Service { controller, ..self }
+    }
+
     fn byte_17(&self) -> u8 {
         self.keyboard.keys().byte_17() | self.shared.byte_17()
     }
@@ -166,13 +194,30 @@ impl Service {
         }
     }
 
+    /// What is shown where keys, queue and line stay as they are.
+    fn standing(&self, answer: Answer) -> Outcome {
+        self.outcome(answer, self.line.sent())
+    }
+
+    fn seen(&self, shown: Outcome, effect: Effect) -> Seen {
+        Seen {
+            shown,
+            status: self.controller.status(),
+            byte: effect.byte,
+            interrupt: effect.interrupt,
+            fed: effect.fed,
+        }
+    }
+
     fn empty(&mut self) -> Answer {
         self.shared.queue.empty();
         Answer::plain(answer::DONE)
     }
 
+    /// Also of the controller. What the ports hold of keys stays.
     fn restart(&mut self) -> Answer {
         self.line = Line::new();
+        self.controller = Controller::new();
         Answer::plain(answer::DONE)
     }
 

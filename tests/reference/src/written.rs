@@ -1,7 +1,9 @@
 //! Lists written as words: `K1E` is a byte of the keyboard and `S1E` one of the scanner, `C12` a function
 //! with the bytes 00 and 00, `P`, `T`, `E` and `R` are themselves, `frame=624` is a frame by its number,
-//! and `set=2` a change of set.
+//! and `set=2` a change of set. At the controller, `key=1E` is a byte of the keyboard, `r60` and `r64` are
+//! reads, and `w60=01` and `w64=AA` writes.
 
+use crate::controller::PortEvent;
 use crate::input::Input;
 use crate::pack::Event;
 use crate::translation::CodeSet;
@@ -10,17 +12,31 @@ pub fn inputs(text: &str) -> Vec<Input> {
     text.split_whitespace().map(input).collect()
 }
 
-/// A list in which no word is a frame or a change of set.
+/// A list of what a pack can hold.
 pub fn events(text: &str) -> Vec<Event> {
     text.split_whitespace().map(event).collect()
 }
 
 fn input(word: &str) -> Input {
-    match word.split_once('=') {
-        Some(("frame", frame)) => Input::Frame(number(frame)),
-        Some((_, "1")) => Input::Change(CodeSet::One),
-        Some((_, "2")) => Input::Change(CodeSet::Two),
+    let (name, digits) = word.split_once('=').unwrap_or((word, ""));
+    let byte = || number(digits) as u8;
+    match name {
+        "frame" => Input::Frame(number(digits)),
+        "set" => Input::Change(set(digits)),
+        "key" => Input::Port(PortEvent::FromKeyboard(byte())),
+        "r60" => Input::Port(PortEvent::Read60),
+        "r64" => Input::Port(PortEvent::Read64),
+        "w60" => Input::Port(PortEvent::Write60(byte())),
+        "w64" => Input::Port(PortEvent::Write64(byte())),
         _ => Input::Event(event(word)),
+    }
+}
+
+fn set(digit: &str) -> CodeSet {
+    match digit {
+        "1" => CodeSet::One,
+        "2" => CodeSet::Two,
+        _ => panic!("no set is written {digit}"),
     }
 }
 
@@ -66,5 +82,14 @@ mod tests {
             Input::Event(Event::Key(0x1E)),
         ];
         assert_eq!(inputs("set=1 set=2 frame=624 K1E"), expected);
+        let expected = [
+            PortEvent::FromKeyboard(0x1E),
+            PortEvent::Read60,
+            PortEvent::Read64,
+            PortEvent::Write60(0x01),
+            PortEvent::Write64(0xAA),
+        ];
+        let expected = expected.map(Input::Port);
+        assert_eq!(inputs("key=1E r60 r64 w60=01 w64=AA"), expected);
     }
 }

@@ -3,7 +3,7 @@
 
 use reference::generator::random_lists;
 use reference::prefix::Prefix;
-use reference::{read_frame, write_frame, CodeSet, Device, Event, Input, Outcome, Service};
+use reference::{read_frame, write_frame, CodeSet, Device, Event, Input, Outcome, Seen, Service};
 
 const LISTS: usize = 2_000;
 const LONGEST: usize = 200;
@@ -96,22 +96,24 @@ fn spoiled_frames_leave_reply_awaited_and_prefix_open() {
             flags: u32::to_be_bytes(flags),
             sent: 1,
         };
-        assert_eq!(service.input(&input), expected, "{input:X?}");
+        assert_eq!(service.input(&input).shown, expected, "{input:X?}");
     }
 }
 
-/// Before bytes of the scanner too, and behind them.
+/// Before bytes of the scanner and port events too, and behind them. Where they are taken out, sound frames
+/// come as the events that they carry.
 #[test]
 fn refused_frames_can_be_taken_out() {
     for (set, locks, inputs) in lists() {
         let mut whole = Service::on_set(set, locks).unwrap();
         let mut without = whole.clone();
         for input in &inputs {
-            let shown = whole.input(input);
-            match (input.fed(), input) {
-                (Some(event), _) => assert_eq!(shown, without.event(&event), "{inputs:X?}"),
-                (None, Input::Change(set)) => assert_eq!(shown, without.change(*set)),
-                (None, _) => assert_shows_what_stands(&without, &shown),
+            let seen = whole.input(input);
+            if input.is_refused_frame() {
+                assert_shows_what_stands(&without, &seen);
+            } else {
+                let unframed = input.fed().map_or(*input, Input::Event);
+                assert_eq!(seen, without.input(&unframed), "{inputs:X?}");
             }
         }
         assert_eq!(whole, without, "{inputs:X?}");
@@ -119,18 +121,21 @@ fn refused_frames_can_be_taken_out() {
 }
 
 /// The answer and the word are the refusal's, and the rest is as a status call shows it.
-fn assert_shows_what_stands(service: &Service, shown: &Outcome) {
-    let standing = service.clone().event(&Event::Call(0x02, 0, 0));
-    assert!((0x8B..=0x8D).contains(&shown.ans));
-    assert_eq!(shown.word, 0);
-    assert_eq!((shown.flags, shown.sent), (standing.flags, standing.sent));
+fn assert_shows_what_stands(service: &Service, seen: &Seen) {
+    let mut standing = service
+        .clone()
+        .input(&Input::Event(Event::Call(0x02, 0, 0)));
+    assert!((0x8B..=0x8D).contains(&seen.shown.ans));
+    standing.shown.ans = seen.shown.ans;
+    standing.shown.word = 0x0000;
+    assert_eq!(*seen, standing);
 }
 
 /// How many of the lists hold a frame that is read so.
 fn lists_with(reading: Result<u8, u8>) -> usize {
     let is_read_so = |input: &Input| match *input {
         Input::Frame(frame) => read_frame(frame) == reading,
-        Input::Event(_) | Input::Change(_) => false,
+        Input::Event(_) | Input::Change(_) | Input::Port(_) => false,
     };
     let lists = lists().filter(|(_, _, inputs)| inputs.iter().any(is_read_so));
     lists.count()

@@ -143,12 +143,12 @@ impl Step {
 fn run(mut service: Service, inputs: &[Input], mut look: impl FnMut(&Step)) {
     for input in inputs {
         let before = service.clone();
-        let shown = service.input(input);
-        if let Some(event) = input.fed() {
+        let seen = service.input(input);
+        if let Some(event) = input.ran(&seen) {
             look(&Step {
                 before,
                 event,
-                shown,
+                shown: seen.shown,
             });
         }
     }

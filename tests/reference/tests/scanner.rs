@@ -8,7 +8,7 @@ use reference::generator::{
     Random,
 };
 use reference::prefix::Prefix;
-use reference::{CodeSet, Device, Event, Input, Outcome, Port, Service, CODE_SETS, DEVICES};
+use reference::{CodeSet, Device, Event, Input, Outcome, Port, Seen, Service, CODE_SETS, DEVICES};
 use shown::{assert_shown, Shown};
 
 const LISTS: usize = 2_000;
@@ -85,22 +85,33 @@ fn further(random: &mut Random, number: usize, service: &Service) -> Vec<Input> 
     random_inputs(random, flavour, service.set(), FURTHER)
 }
 
-/// Runs the lists and shows each step: the service before, the input, what it shows and the service after.
-fn each_step(mut check: impl FnMut(&Service, &Input, &Outcome, &Service)) {
+/// Runs the lists and shows each step: the service before, the input, what is seen of it and the service
+/// after.
+fn each_step(mut check: impl FnMut(&Service, &Input, &Seen, &Service)) {
     for (set, locks, inputs) in random_lists(0x5CA, LISTS, LONGEST) {
         let mut service = Service::on_set(set, locks).unwrap();
         for input in &inputs {
             let before = service.clone();
-            let shown = service.input(input);
-            check(&before, input, &shown, &service);
+            let seen = service.input(input);
+            check(&before, input, &seen, &service);
         }
     }
 }
 
-/// The device whose byte an input feeds, sound frames among them.
-fn device_of(input: &Input) -> Option<Device> {
-    let (device, _) = input.fed()?.incoming()?;
+/// The device whose byte an input fed, sound frames and reads of port 60 among them.
+fn device_of(input: &Input, seen: &Seen) -> Option<Device> {
+    let (device, _) = input.ran(seen)?.incoming()?;
     Some(device)
+}
+
+/// Whether an input comes from the keyboard's keys, or says of which set they are.
+fn is_of_the_keyboard(service: &Service, input: &Input) -> bool {
+    let seen = service.clone().input(input);
+    device_of(input, &seen) == Some(Device::Keyboard) || matches!(input, Input::Change(_))
+}
+
+fn is_scan(input: &Input) -> bool {
+    matches!(input, Input::Event(Event::Scan(_)))
 }
 
 /// What an input must show if it does nothing else than to be answered so.
@@ -113,17 +124,16 @@ fn standing(service: &Service, ans: u8) -> Outcome {
     }
 }
 
-/// What an input shows of all that the keyboard's own bits have no part in. A status is these bits.
-fn shown_beside_keyboard(input: &Input, shown: &Outcome) -> (u8, u16, [u8; 3], u8) {
-    let is_status = matches!(input.fed(), Some(Event::Call(0x02 | 0x12, ..)));
-    let word = if is_status {
-        shown.word & u16::from(LOCKS)
-    } else {
-        shown.word
-    };
-    let [byte_17, byte_18, _, byte_97] = shown.flags;
-    let shared = [byte_17 & LOCKS, byte_18 & PAUSED, byte_97];
-    (shown.ans, word, shared, shown.sent)
+/// What is seen of an input beside the keyboard's own bits. A status is these bits.
+fn beside_keyboard(input: &Input, mut seen: Seen) -> Seen {
+    if let Some(Event::Call(0x02 | 0x12, ..)) = input.fed() {
+        seen.shown.word &= u16::from(LOCKS);
+    }
+    let shared = [LOCKS, PAUSED, 0x00, 0xFF];
+    for (byte, shared) in seen.shown.flags.iter_mut().zip(shared) {
+        *byte &= shared;
+    }
+    seen
 }
 
 #[test]
@@ -134,14 +144,15 @@ fn inputs_show_what_was_worked_out() {
 #[test]
 fn bytes_touch_the_port_of_their_device_alone() {
     let mut touched = [0; DEVICES.len()];
-    each_step(|before, input, _, after| {
+    each_step(|before, input, seen, after| {
+        let from = device_of(input, seen);
         for (touched, device) in touched.iter_mut().zip(DEVICES) {
             let same = before.port(device) == after.port(device);
-            assert!(same || device_of(input) == Some(device), "{input:X?}");
+            assert!(same || from == Some(device), "{input:X?}");
             *touched += usize::from(!same);
         }
         let is_change = matches!(input, Input::Change(_));
-        if device_of(input) != Some(Device::Keyboard) && !is_change {
+        if from != Some(Device::Keyboard) && !is_change {
             assert_eq!(before.translation(), after.translation(), "{input:X?}");
         }
     });
@@ -159,7 +170,7 @@ fn nothing_else_depends_on_the_scanner() {
         let mut other = one.clone().with_port(Device::Scanner, scanner);
         differ += usize::from(one != other);
         let inputs = further(&mut random, number, &one).into_iter();
-        for input in inputs.filter(|input| device_of(input) != Some(Device::Scanner)) {
+        for input in inputs.filter(|input| !is_scan(input)) {
             assert_eq!(one.input(&input), other.input(&input), "{input:X?}");
             assert_eq!(*other.port(Device::Scanner), scanner);
             assert_eq!(one.clone().with_port(Device::Scanner, scanner), other);
@@ -181,12 +192,12 @@ fn nothing_else_depends_on_the_keyboard() {
         other.change(with.set());
         differ += usize::from(one.port(Device::Keyboard) != &keyboard);
         let inputs = further(&mut random, number, &one).into_iter();
-        let is_wanted = |input: &Input| {
-            device_of(input) != Some(Device::Keyboard) && !matches!(input, Input::Change(_))
-        };
-        for input in inputs.filter(is_wanted) {
-            let shown = [one.input(&input), other.input(&input)];
-            let [of_one, of_other] = shown.map(|shown| shown_beside_keyboard(&input, &shown));
+        for input in inputs {
+            if is_of_the_keyboard(&one, &input) {
+                continue;
+            }
+            let seen = [one.input(&input), other.input(&input)];
+            let [of_one, of_other] = seen.map(|seen| beside_keyboard(&input, seen));
             assert_eq!(of_one, of_other, "{input:X?}");
             assert_eq!(*other.port(Device::Keyboard), keyboard);
             assert_eq!(one.port(Device::Scanner), other.port(Device::Scanner));
@@ -252,10 +263,10 @@ fn quiet_bytes_of_the_keyboard_can_be_taken_out() {
         let mut whole = Service::new(locks).unwrap();
         let mut without = whole.clone();
         for event in events.into_iter().map(Input::Event) {
-            let shown = whole.input(&event);
-            if device_of(&event) != Some(Device::Keyboard) {
-                let expected = shown_beside_keyboard(&event, &without.input(&event));
-                assert_eq!(shown_beside_keyboard(&event, &shown), expected);
+            let seen = whole.input(&event);
+            if device_of(&event, &seen) != Some(Device::Keyboard) {
+                let expected = beside_keyboard(&event, without.input(&event));
+                assert_eq!(beside_keyboard(&event, seen), expected);
             }
         }
     }
@@ -277,9 +288,8 @@ fn both_ports_read_bytes_alike() {
         let events = random_events(&mut random, flavour, LONGEST);
         for event in with_scanner(&mut random, &events) {
             let inputs = [event, exchanged(event)].map(Input::Event);
-            let shown = [one.input(&inputs[0]), other.input(&inputs[1])];
-            let of_one = shown_beside_keyboard(&inputs[0], &shown[0]);
-            let of_other = shown_beside_keyboard(&inputs[1], &shown[1]);
+            let of_one = beside_keyboard(&inputs[0], one.input(&inputs[0]));
+            let of_other = beside_keyboard(&inputs[1], other.input(&inputs[1]));
             assert_eq!(of_one, of_other, "{event:X?}");
             for device in DEVICES {
                 assert_eq!(one.port(device), other.port(device.other()), "{event:X?}");

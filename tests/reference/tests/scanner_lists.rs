@@ -3,7 +3,7 @@
 mod steps;
 
 use reference::prefix::Prefix;
-use reference::{Device, Event, Input, Outcome, Port, Service, Translation, DEVICES};
+use reference::{Device, Event, Input, Port, Seen, Service, Translation, DEVICES};
 use steps::{Memory, LISTS};
 
 /// Bits of flag byte 17, and the pause in byte 18.
@@ -16,27 +16,24 @@ const PAUSED: u8 = 0x08;
 struct PausedBy(Option<Device>);
 
 impl Memory for PausedBy {
-    fn keep(&mut self, before: &Service, input: &Input, shown: &Outcome) {
-        if pauses(before, shown) {
-            self.0 = incoming(input).map(|(device, _)| device);
+    fn keep(&mut self, before: &Service, input: &Input, seen: &Seen) {
+        if pauses(before, seen) {
+            let incoming = input.ran(seen).and_then(|event| event.incoming());
+            self.0 = incoming.map(|(device, _)| device);
         }
     }
 }
 
 type Step<'a> = steps::Step<'a, PausedBy>;
 
-/// Where a byte came in, and the byte.
-fn incoming(input: &Input) -> Option<(Device, u8)> {
-    input.fed()?.incoming()
-}
-
-fn pauses(before: &Service, shown: &Outcome) -> bool {
-    !before.flag_bytes()[1] & shown.flags[1] & PAUSED != 0
+fn pauses(before: &Service, seen: &Seen) -> bool {
+    !before.flag_bytes()[1] & seen.shown.flags[1] & PAUSED != 0
 }
 
 impl Step<'_> {
+    /// Where a byte came in, and the byte.
     fn incoming(&self) -> Option<(Device, u8)> {
-        incoming(self.input)
+        self.event()?.incoming()
     }
 
     fn is_from(&self, device: Device) -> bool {
@@ -45,7 +42,7 @@ impl Step<'_> {
 
     /// A byte from this device with this answer.
     fn is_answered(&self, device: Device, ans: u8) -> bool {
-        self.is_from(device) && self.shown.ans == ans
+        self.is_from(device) && self.seen.shown.ans == ans
     }
 
     /// The port of a device, as it stood before.
@@ -55,7 +52,7 @@ impl Step<'_> {
 
     /// The locks that turn.
     fn turned(&self) -> u8 {
-        (self.before.flag_bytes()[0] ^ self.shown.flags[0]) & LOCKS
+        (self.before.flag_bytes()[0] ^ self.seen.shown.flags[0]) & LOCKS
     }
 
     /// A byte from this device turns a lock that the other port holds, one of these.
@@ -65,12 +62,12 @@ impl Step<'_> {
     }
 
     fn pauses(&self) -> bool {
-        pauses(self.before, &self.shown)
+        pauses(self.before, &self.seen)
     }
 
     /// A byte from this device ends a pause that came from that one.
     fn ends_pause(&self, device: Device, of: Device) -> bool {
-        let ended = self.before.flag_bytes()[1] & !self.shown.flags[1] & PAUSED != 0;
+        let ended = self.before.flag_bytes()[1] & !self.seen.shown.flags[1] & PAUSED != 0;
         ended && self.is_from(device) && self.kept.0 == Some(of)
     }
 
@@ -90,7 +87,7 @@ impl Step<'_> {
 
     /// A sum is put from this device while the other port has one.
     fn puts_sum_beside_sum(&self, device: Device) -> bool {
-        let put = self.is_answered(device, 0x01) && self.shown.word < 0x0100;
+        let put = self.is_answered(device, 0x01) && self.seen.shown.word < 0x0100;
         put && self.port(device).alt_sum() > 0 && self.port(device.other()).alt_sum() > 0
     }
 
@@ -101,7 +98,7 @@ impl Step<'_> {
     /// A status that the scanner's keys would change if they were shown.
     fn is_status_beside_keys(&self) -> bool {
         let keys = self.port(Device::Scanner).keys();
-        let is_status = matches!(self.input.fed(), Some(Event::Call(0x02 | 0x12, ..)));
+        let is_status = matches!(self.event(), Some(Event::Call(0x02 | 0x12, ..)));
         is_status && keys.byte_17() != 0
     }
 }
@@ -155,10 +152,10 @@ const BROUGHT_ABOUT: [(&str, fn(&Step) -> bool); 28] = [
         step.is_reply_of_the_scanner() && is_open
     }),
     ("the scanner's reply while a command runs", |step| {
-        step.is_reply_of_the_scanner() && step.shown.sent > 0
+        step.is_reply_of_the_scanner() && step.seen.shown.sent > 0
     }),
     ("the scanner after six bytes sent", |step| {
-        step.is_from(Device::Scanner) && step.shown.sent == 6
+        step.is_from(Device::Scanner) && step.seen.shown.sent == 6
     }),
     ("a word of the scanner beside Shift", |step| {
         step.is_put_beside_shift(Device::Scanner)
@@ -204,8 +201,8 @@ const BROUGHT_ABOUT: [(&str, fn(&Step) -> bool); 28] = [
         sum(Device::Keyboard) > 0 && sum(Device::Scanner) > 0
     }),
     ("the scanner's sum put", |step| {
-        let put = matches!(step.shown.ans, 0x01 | 0x02);
-        step.is_from(Device::Scanner) && put && (0x0001..=0x00FF).contains(&step.shown.word)
+        let put = matches!(step.seen.shown.ans, 0x01 | 0x02);
+        step.is_from(Device::Scanner) && put && (0x0001..=0x00FF).contains(&step.seen.shown.word)
     }),
     ("the scanner's sum put beside a sum", |step| {
         step.puts_sum_beside_sum(Device::Scanner)

@@ -4,7 +4,7 @@
 mod steps;
 
 use reference::Translation::{self, SetOne, SetTwo, SetTwoMarked};
-use reference::{CodeSet, Event, Input, Outcome, Service, CODE_SETS};
+use reference::{CodeSet, Event, Input, Seen, Service, CODE_SETS};
 use steps::{Memory, LISTS};
 
 /// The bytes of the keyboard so far.
@@ -12,8 +12,8 @@ use steps::{Memory, LISTS};
 struct Bytes(Vec<u8>);
 
 impl Memory for Bytes {
-    fn keep(&mut self, _: &Service, input: &Input, _: &Outcome) {
-        if let Some(Event::Key(byte)) = input.fed() {
+    fn keep(&mut self, _: &Service, input: &Input, seen: &Seen) {
+        if let Some(Event::Key(byte)) = input.ran(seen) {
             self.0.push(byte);
         }
     }
@@ -24,14 +24,14 @@ type Step<'a> = steps::Step<'a, Bytes>;
 impl Step<'_> {
     /// The byte of the keyboard that is fed.
     fn byte(&self) -> Option<u8> {
-        match self.input.fed() {
+        match self.event() {
             Some(Event::Key(byte)) => Some(byte),
             _ => None,
         }
     }
 
     fn is_of_scanner(&self) -> bool {
-        matches!(self.input.fed(), Some(Event::Scan(_)))
+        matches!(self.event(), Some(Event::Scan(_)))
     }
 
     fn is_byte_of_set_2(&self) -> bool {
@@ -45,7 +45,7 @@ impl Step<'_> {
 
     /// A byte of a set 2 keyboard with this answer.
     fn is_answered(&self, ans: u8) -> bool {
-        self.is_byte_of_set_2() && self.shown.ans == ans
+        self.is_byte_of_set_2() && self.seen.shown.ans == ans
     }
 
     fn is_marked(&self) -> bool {
@@ -67,12 +67,12 @@ impl Step<'_> {
 
     /// Whether a bit of a flag byte goes on.
     fn sets(&self, place: usize, bit: u8) -> bool {
-        !self.before.flag_bytes()[place] & self.shown.flags[place] & bit != 0
+        !self.before.flag_bytes()[place] & self.seen.shown.flags[place] & bit != 0
     }
 
     /// Whether a bit of a flag byte goes off.
     fn clears(&self, place: usize, bit: u8) -> bool {
-        self.before.flag_bytes()[place] & !self.shown.flags[place] & bit != 0
+        self.before.flag_bytes()[place] & !self.seen.shown.flags[place] & bit != 0
     }
 }
 
@@ -140,7 +140,7 @@ const BROUGHT_ABOUT: [(&str, fn(&Step) -> bool); 20] = [
     }),
     ("a word put", |step| step.is_answered(0x01)),
     ("a word of 83", |step| {
-        step.ends(&[0x83]) && matches!(step.shown.ans, 0x01 | 0x02)
+        step.ends(&[0x83]) && matches!(step.seen.shown.ans, 0x01 | 0x02)
     }),
     ("a word dropped", |step| step.is_answered(0x02)),
     ("a break of the queue", |step| step.is_answered(0x03)),
@@ -154,7 +154,7 @@ const BROUGHT_ABOUT: [(&str, fn(&Step) -> bool); 20] = [
     }),
     ("a command given up", |step| step.is_answered(0x0E)),
     ("a command of six bytes", |step| {
-        step.is_byte_of_set_2() && step.shown.sent == 6
+        step.is_byte_of_set_2() && step.seen.shown.sent == 6
     }),
 ];
 

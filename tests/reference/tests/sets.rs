@@ -9,7 +9,7 @@ use reference::generator::{
 use reference::translation::translated;
 use reference::vectors::from_hex;
 use reference::Translation::{self, SetOne, SetTwo, SetTwoMarked};
-use reference::{CodeSet, Event, Input, Service, CODE_SETS};
+use reference::{CodeSet, Event, Input, Seen, Service, CODE_SETS};
 use shown::{assert_shown, Shown};
 
 const LISTS: usize = 2_000;
@@ -136,14 +136,15 @@ const SHOWN: [(&str, Shown); 61] = [
     ("P KFE P KFA P set=2 set=2", (0x00, 0x0000, 0x00000040, 3)),
 ];
 
-/// Runs the lists and shows each step: the service before, the input and the service after.
-fn each_step(mut check: impl FnMut(&Service, &Input, &Service)) {
+/// Runs the lists and shows each step: the service before, the input, what is seen of it and the service
+/// after.
+fn each_step(mut check: impl FnMut(&Service, &Input, &Seen, &Service)) {
     for (set, locks, inputs) in random_lists(0x5E7, LISTS, LONGEST) {
         let mut service = Service::on_set(set, locks).unwrap();
         for input in &inputs {
             let before = service.clone();
-            service.input(input);
-            check(&before, input, &service);
+            let seen = service.input(input);
+            check(&before, input, &seen, &service);
         }
     }
 }
@@ -217,7 +218,7 @@ fn a_service_made_on_a_set_is_one_changed_to_it() {
 /// Changed back, and marked again if it was, a service is what it was.
 #[test]
 fn a_change_closes_the_mark_and_changes_nothing_else() {
-    each_step(|_, _, service| {
+    each_step(|_, _, _, service| {
         let standing = service.clone().event(&Event::Call(0x02, 0, 0));
         for set in CODE_SETS {
             let mut changed = service.clone();
@@ -236,8 +237,8 @@ fn a_change_closes_the_mark_and_changes_nothing_else() {
 
 #[test]
 fn only_keyboard_bytes_and_changes_touch_the_mark() {
-    each_step(|before, input, after| {
-        let from_the_keyboard = matches!(input.fed(), Some(Event::Key(_)));
+    each_step(|before, input, seen, after| {
+        let from_the_keyboard = matches!(input.ran(seen), Some(Event::Key(_)));
         if !from_the_keyboard && !matches!(input, Input::Change(_)) {
             assert_eq!(before.translation(), after.translation(), "{input:X?}");
         }

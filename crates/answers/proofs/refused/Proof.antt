@@ -22,6 +22,12 @@ enum-known-refusal c = search needs
 refused-frame-requires : tie.Need-refused-frame-requires
 refused-frame-requires c κs = search needs
 
+enum-known-refusal-2 : tie.Need-enum-known-refusal-2
+enum-known-refusal-2 c = search needs
+
+refused-port-requires : tie.Need-refused-port-requires
+refused-port-requires c κs = search needs
+
 returns : tie.Need-returns
 returns c = simp (c .enum-told .given .1)
 
@@ -37,6 +43,9 @@ returns-4 c = simp (c .enum-told4 .given .1)
 returns-5 : tie.Need-returns-5
 returns-5 c = simp (c .refused-frame .ensures, c .before .before .refusal .given .1)
 
+returns-6 : tie.Need-returns-6
+returns-6 c = simp (c .refused-port .ensures, c .before .before .refusal2 .given .1)
+
 pub refused-spec : {M : Type 1} → statement M
 refused-spec =
     tie.close
@@ -47,8 +56,11 @@ refused-spec =
     enum-told-4
     enum-known-refusal
     refused-frame-requires
+    enum-known-refusal-2
+    refused-port-requires
     returns
     returns-2
     returns-3
     returns-4
-    returns-5)
+    returns-5
+    returns-6)

@@ -11,9 +11,16 @@ new-requires c κs = search needs
 with-line-requires : tie.Need-with-line-requires
 with-line-requires c κs = search needs
 
+new-requires-2 : tie.Need-new-requires-2
+new-requires-2 c κs = search needs
+
+with-controller-requires : tie.Need-with-controller-requires
+with-controller-requires c κs = search needs
+
 returns : tie.Need-returns
 unfolding restartOf
-returns c = simp (c .with-line .ensures, ← (c .before .new .ensures))
+returns c =
+    simp (c .with-controller .ensures, ← (c .before .new2 .ensures), c .before .before .with-line .ensures, ← (c .before .before .before .new .ensures))
 
 pub restart-spec : {M : Type 1} → statement M
-restart-spec = tie.close (tie.spec new-requires with-line-requires returns)
+restart-spec = tie.close (tie.spec new-requires with-line-requires new-requires-2 with-controller-requires returns)

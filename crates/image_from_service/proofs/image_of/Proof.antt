@@ -1,6 +1,6 @@
 -- The proof of `image_from_service::image_of`.
 -- Assumes nothing.
-use Rattle.image.specs.Image.{imageOf}
+use Rattle.image.specs.Image.{imageOf, onController}
 use borrow.Author.Needs.{needs}
 use Rattle.image_from_service.proofs.image_of.Statement.{statement}
 use Rattle.image_from_service.proofs.image_of.Tie as tie
@@ -24,8 +24,16 @@ image-of-requires-3 : tie.Need-image-of-requires-3
 image-of-requires-3 c κs = search needs
 
 returns : tie.Need-returns
-unfolding imageOf
-returns c = simp (c .image-of3 .ensures, ← (c .before .image-of2 .ensures), ← (c .before .before .image-of .ensures), ← (c .before .before .before .input-number .ensures), ← (c .before .before .before .before .prefix-number .ensures), ← (c .before .before .before .before .before .flag-bytes .ensures))
+unfolding imageOf onController
+returns c =
+    simp (
+      c .image-of3 .ensures,
+      ← (c .before .image-of2 .ensures),
+      ← (c .before .before .image-of .ensures),
+      ← (c .before .before .before .input-number .ensures),
+      ← (c .before .before .before .before .prefix-number .ensures),
+      ← (c .before .before .before .before .before .flag-bytes .ensures),
+    )
 
 pub image-of-spec : {M : Type 1} → statement M
 image-of-spec =

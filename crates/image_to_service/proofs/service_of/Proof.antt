@@ -1,6 +1,6 @@
 -- The proof of `image_to_service::service_of`.
 -- Assumes nothing.
-use Rattle.image.specs.Image.{serviceOf}
+use Rattle.image.specs.Image.{serviceOf, bareServiceOf}
 use borrow.Author.Needs.{needs}
 use Rattle.image_to_service.proofs.service_of.Statement.{statement}
 use Rattle.image_to_service.proofs.service_of.Tie as tie
@@ -23,9 +23,22 @@ line-of-requires c κs = search needs
 codes-of-requires : tie.Need-codes-of-requires
 codes-of-requires c κs = search needs
 
+new-requires : tie.Need-new-requires
+new-requires c κs = search needs
+
 returns : tie.Need-returns
-unfolding serviceOf
-returns c = simp (c .codes-of .ensures, ← (c .before .before .line-of .ensures), ← (c .before .before .before .queue-of .ensures), ← (c .before .before .before .before .shared-of .ensures), ← (c .before .before .before .before .before .port-of .ensures), ← (c .before .before .before .before .before .before .keyboard-of .ensures))
+unfolding serviceOf bareServiceOf
+returns c =
+    let before-codes = c .before .before in
+    simp (
+      c .new .ensures,
+      ← (c .before .codes-of .ensures),
+      ← (before-codes .before .line-of .ensures),
+      ← (before-codes .before .before .queue-of .ensures),
+      ← (before-codes .before .before .before .shared-of .ensures),
+      ← (before-codes .before .before .before .before .port-of .ensures),
+      ← (before-codes .before .before .before .before .before .keyboard-of .ensures),
+    )
 
 pub service-of-spec : {M : Type 1} → statement M
 service-of-spec =
@@ -37,4 +50,5 @@ service-of-spec =
     queue-of-requires
     line-of-requires
     codes-of-requires
+    new-requires
     returns)

@@ -1,61 +1,13 @@
-//! Lists in which keyboard bytes come as frames too, with noise between them.
+//! Keyboard bytes that come as frames, with noise between them.
 
-use super::devices::with_scanner;
-use super::mixes::{in_turn, random_events, Flavour};
 use super::random::Random;
-use super::sets::{all_up_events, with_sets};
 use crate::frame::{read_frame, write_frame, FIRST_DATA_BIT, PARITY_BIT, START_BIT, STOP_BIT};
 use crate::input::Input;
-use crate::pack::{Event, DEVICES};
-use crate::translation::CodeSet;
-
-/// So many lists for services newly made, each with the set and the locks of its service: every flavour in
-/// turn, then the other set, then the next setting of the locks. None is longer than this.
-pub fn random_lists(
-    seed: u64,
-    lists: usize,
-    longest: usize,
-) -> impl Iterator<Item = (CodeSet, u8, Vec<Input>)> {
-    let mut random = Random::new(seed);
-    (0..lists).map(move |list| {
-        let (flavour, set, locks) = in_turn(list);
-        let length = random.below(longest + 1);
-        let inputs = random_inputs(&mut random, flavour, set, length);
-        (set, locks, inputs)
-    })
-}
-
-/// A list for a service on this set: so many events and changes of set, and refused frames among them.
-/// Most hold bytes of the scanner. It may end anywhere, also behind a prefix or a mark.
-pub fn random_inputs(
-    random: &mut Random,
-    flavour: Flavour,
-    set: CodeSet,
-    length: usize,
-) -> Vec<Input> {
-    let mut events = random_events(random, flavour, length);
-    if random.below(4) > 0 {
-        events = with_scanner(random, &events);
-    }
-    let mut inputs = with_sets(random, set, &events);
-    inputs.truncate(length);
-    with_frames(random, &inputs)
-}
-
-/// A list that feeds the all-up run at both devices, whichever comes first, an emptying and a restart.
-/// The keyboard's is that of its set.
-pub fn all_up_inputs(random: &mut Random, set: CodeSet) -> Vec<Input> {
-    let first = random.pick(&DEVICES);
-    let runs = [first, first.other()].map(|device| all_up_events(device, set));
-    let events = runs.into_iter().flatten();
-    let events = events.chain([Event::Empty, Event::Restart]);
-    let inputs: Vec<Input> = events.map(Input::Event).collect();
-    with_frames(random, &inputs)
-}
+use crate::pack::Event;
 
 /// A list that does the same as this one: two of three keyboard bytes as frames, and before, between
 /// and behind them refused frames.
-fn with_frames(random: &mut Random, inputs: &[Input]) -> Vec<Input> {
+pub fn with_frames(random: &mut Random, inputs: &[Input]) -> Vec<Input> {
     let mut framed = Vec::with_capacity(2 * inputs.len());
     add_refused(&mut framed, random);
     for &input in inputs {

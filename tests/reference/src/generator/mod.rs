@@ -2,12 +2,14 @@
 //! that no pack holds, random lists.
 
 mod calls;
+mod controller;
 mod devices;
 mod enhanced;
 mod frames;
 mod grey;
 mod keys;
 mod line;
+mod lists;
 mod mixes;
 mod prefixes;
 mod queue;
@@ -17,9 +19,10 @@ mod scanner;
 mod sets;
 mod writer;
 
+pub use controller::{random_port_event, typed_at_ports, DONE_AT_PORTS};
 pub use devices::with_scanner;
-pub use frames::{all_up_inputs, random_inputs, random_lists};
 pub use grey::kept as kept_for_grey_keys;
+pub use lists::{all_up_inputs, random_inputs, random_lists};
 pub use mixes::{in_turn, random_events, Flavour, FLAVOURS};
 pub use random::Random;
 pub use sets::{all_up_events, all_up_run, typed_on};

@@ -10,13 +10,13 @@ pub type Shown = (u8, u16, u32, u8);
 pub fn assert_shown(cases: &[(&str, Shown)]) {
     for &(text, (ans, word, flags, sent)) in cases {
         let mut service = Service::unlocked();
-        let shown = inputs(text).iter().map(|input| service.input(input)).last();
+        let seen = inputs(text).iter().map(|input| service.input(input)).last();
         let expected = Outcome {
             ans,
             word,
             flags: flags.to_be_bytes(),
             sent,
         };
-        assert_eq!(shown, Some(expected), "{text}");
+        assert_eq!(seen.map(|seen| seen.shown), Some(expected), "{text}");
     }
 }

@@ -1,25 +1,32 @@
 //! Random lists, step by step, and in how many of them something is met.
 
 use reference::generator::random_lists;
-use reference::{Input, Outcome, Service};
+use reference::{Event, Input, Seen, Service};
 
 pub const LISTS: usize = 2_000;
 const LONGEST: usize = 300;
 
 /// What a test has to know of earlier inputs.
 pub trait Memory: Default {
-    /// An input more, with the service before it and what it shows.
-    fn keep(&mut self, before: &Service, input: &Input, shown: &Outcome);
+    /// An input more, with the service before it and what is seen of it.
+    fn keep(&mut self, before: &Service, input: &Input, seen: &Seen);
 }
 
 /// One input of a list, and the service before and after it.
 pub struct Step<'a, Kept> {
     pub before: &'a Service,
     pub input: &'a Input,
-    pub shown: Outcome,
+    pub seen: Seen,
     pub after: &'a Service,
     /// Of the inputs so far, this one too.
     pub kept: &'a Kept,
+}
+
+impl<Kept> Step<'_, Kept> {
+    /// The event that reached the service.
+    pub fn event(&self) -> Option<Event> {
+        self.input.ran(&self.seen)
+    }
 }
 
 fn each_step<Kept: Memory>(
@@ -30,12 +37,12 @@ fn each_step<Kept: Memory>(
     let mut kept = Kept::default();
     for input in inputs {
         let before = service.clone();
-        let shown = service.input(input);
-        kept.keep(&before, input, &shown);
+        let seen = service.input(input);
+        kept.keep(&before, input, &seen);
         look(&Step {
             before: &before,
             input,
-            shown,
+            seen,
             after: &service,
             kept: &kept,
         });

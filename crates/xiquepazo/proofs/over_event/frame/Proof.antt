@@ -20,14 +20,14 @@ event-on-copy-requires c κs = search needs
 enum-known-fault : tie.Need-enum-known-fault
 enum-known-fault c = search needs
 
-refused-frame-requires : tie.Need-refused-frame-requires
-refused-frame-requires c κs = search needs
+refused-requires : tie.Need-refused-requires
+refused-requires c κs = search needs
 
 returns : tie.Need-returns
 returns c = simp (c .event-on-copy .ensures, c .before .tagged-of .ensures, tags-recognised, c .before .before .before .byte .given .1, ← (c .before .before .before .before .before .read .ensures))
 
 returns-2 : tie.Need-returns-2
-returns-2 c = simp (c .refused-frame .ensures, c .before .before .fault .given .1, ← (c .before .before .before .before .read .ensures))
+returns-2 c = simp (c .refused .ensures, c .before .before .fault .given .1, ← (c .before .before .before .before .read .ensures))
 
 pub frame-spec : {M : Type 1} → statement M
 frame-spec =
@@ -38,6 +38,6 @@ frame-spec =
     tagged-of-requires
     event-on-copy-requires
     enum-known-fault
-    refused-frame-requires
+    refused-requires
     returns
     returns-2)

@@ -1,9 +1,9 @@
--- The proof of `xiquepazo::over_event::refused_frame`.
+-- The proof of `xiquepazo::over_event::refused`.
 -- Assumes nothing.
 use Rattle.image_calls.specs.Exports.{refusedIn}
 use borrow.Author.Needs.{needs}
-use Rattle.xiquepazo.proofs.over_event.refused_frame.Statement.{statement}
-use Rattle.xiquepazo.proofs.over_event.refused_frame.Tie as tie
+use Rattle.xiquepazo.proofs.over_event.refused.Statement.{statement}
+use Rattle.xiquepazo.proofs.over_event.refused.Tie as tie
 
 number-requires : tie.Need-number-requires
 number-requires c κs = search needs
@@ -18,5 +18,5 @@ returns : tie.Need-returns
 unfolding refusedIn
 returns c = simp (c .with-answer .ensures, c .before .standing .ensures, ← (c .before .before .number .ensures))
 
-pub refused-frame-spec : {M : Type 1} → statement M
-refused-frame-spec = tie.close (tie.spec number-requires standing-requires with-answer-requires returns)
+pub refused-spec : {M : Type 1} → statement M
+refused-spec = tie.close (tie.spec number-requires standing-requires with-answer-requires returns)

@@ -1,0 +1,3 @@
+pub mod State
+pub mod PortEvents
+pub mod Laws
