@@ -11,8 +11,7 @@ use answers::Refusal;
 use events::Outcome;
 use queue::Oldest;
 use state::Service;
-use state::flags;
-use state::status::status_high;
+use state_flags::status::status_high;
 use word::Word;
 
 // What 10 and 11 answer.
@@ -147,10 +146,10 @@ pub fn call(service: Service, function: u8, a: u8, b: u8) -> Outcome
         return look(service);
     }
     if function == 0x02 {
-        return status(service, 0, flags::byte17(service));
+        return status(service, 0, state_flags::byte17(service));
     }
     if function == 0x12 {
-        return status(service, status_high(service), flags::byte17(service));
+        return status(service, status_high(service), state_flags::byte17(service));
     }
     if function == 0x03 {
         return set_rate(service, a, b);

@@ -4,7 +4,7 @@ ghost use Rattle.image.specs.ImageFlags.{flagBytesOf, prefixNumber};
 use image::FlagBytes;
 use port::Prefix;
 use state::Service;
-use state::flags;
+use state_flags as flags;
 
 pub fn flag_bytes(service: Service) -> FlagBytes
     ensures { λ r. ⌜ r ≡ flagBytesOf service ⌝ }

@@ -1,4 +1,4 @@
-// The state of the service, and how its flag bytes show it.
+// The state of the service.
 ghost use mathlib.Core.Path.{_≡_};
 ghost use Rattle.state.specs.State.{locksOf, turnedTo, withQueue, withLine, withCodes, withController};
 use controller::Controller;
@@ -8,9 +8,6 @@ use port::Port;
 use port::Shared;
 use queue::Queue;
 use translation::Codes;
-
-pub mod flags;
-pub mod status;
 
 // Whose bytes reach a port.
 pub enum Device {

@@ -1,9 +1,9 @@
--- The proof of `state::status::status_high`.
+-- The proof of `state_flags::status::status_high`.
 -- Assumes nothing.
 use Rattle.state.specs.Flags.{statusHigh}
 use borrow.Author.Needs.{needs}
-use Rattle.state.proofs.status.status_high.Statement.{statement}
-use Rattle.state.proofs.status.status_high.Tie as tie
+use Rattle.state_flags.proofs.status.status_high.Statement.{statement}
+use Rattle.state_flags.proofs.status.status_high.Tie as tie
 
 byte-requires : tie.Need-byte-requires
 byte-requires c κs = search needs

@@ -1,8 +1,10 @@
 // The flag bytes of the BIOS data area.
 ghost use mathlib.Core.Path.{_≡_};
 ghost use Rattle.state.specs.Flags.{e0Open, e1Open, byte17Of, byte18Of, byte96Of, byte97Of};
-use crate::Service;
 use port::Prefix;
+use state::Service;
+
+pub mod status;
 
 fn e0_open(prefix: Prefix) -> bool
     ensures { λ r. ⌜ r ≡ e0Open prefix ⌝ }

@@ -1,9 +1,9 @@
--- The proof of `state::flags::byte96`.
+-- The proof of `state_flags::byte96`.
 -- Assumes nothing.
 use Rattle.state.specs.Flags.{byte96Of}
 use borrow.Author.Needs.{needs}
-use Rattle.state.proofs.flags.byte96.Statement.{statement}
-use Rattle.state.proofs.flags.byte96.Tie as tie
+use Rattle.state_flags.proofs.byte96.Statement.{statement}
+use Rattle.state_flags.proofs.byte96.Tie as tie
 
 e1-open-requires : tie.Need-e1-open-requires
 e1-open-requires c κs = search needs

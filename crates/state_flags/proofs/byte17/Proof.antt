@@ -1,9 +1,9 @@
--- The proof of `state::flags::byte17`.
+-- The proof of `state_flags::byte17`.
 -- Assumes nothing.
 use Rattle.state.specs.Flags.{byte17Of}
 use borrow.Author.Needs.{needs}
-use Rattle.state.proofs.flags.byte17.Statement.{statement}
-use Rattle.state.proofs.flags.byte17.Tie as tie
+use Rattle.state_flags.proofs.byte17.Statement.{statement}
+use Rattle.state_flags.proofs.byte17.Tie as tie
 
 down-requires : tie.Need-down-requires
 down-requires c κs = search needs

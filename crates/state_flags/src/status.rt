@@ -1,7 +1,7 @@
 // The extended status that function 12 returns over byte 17.
 ghost use mathlib.Core.Path.{_≡_};
 ghost use Rattle.state.specs.Flags.{statusHigh};
-use crate::Service;
+use state::Service;
 
 // Its high byte.
 pub fn status_high(service: Service) -> u8

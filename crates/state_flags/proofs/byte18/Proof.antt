@@ -1,9 +1,9 @@
--- The proof of `state::flags::byte18`.
+-- The proof of `state_flags::byte18`.
 -- Assumes nothing.
 use Rattle.state.specs.Flags.{byte18Of}
 use borrow.Author.Needs.{needs}
-use Rattle.state.proofs.flags.byte18.Statement.{statement}
-use Rattle.state.proofs.flags.byte18.Tie as tie
+use Rattle.state_flags.proofs.byte18.Statement.{statement}
+use Rattle.state_flags.proofs.byte18.Tie as tie
 
 byte-requires : tie.Need-byte-requires
 byte-requires c κs = search needs

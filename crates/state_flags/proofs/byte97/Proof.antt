@@ -1,9 +1,9 @@
--- The proof of `state::flags::byte97`.
+-- The proof of `state_flags::byte97`.
 -- Assumes nothing.
 use Rattle.state.specs.Flags.{byte97Of}
 use borrow.Author.Needs.{needs}
-use Rattle.state.proofs.flags.byte97.Statement.{statement}
-use Rattle.state.proofs.flags.byte97.Tie as tie
+use Rattle.state_flags.proofs.byte97.Statement.{statement}
+use Rattle.state_flags.proofs.byte97.Tie as tie
 
 byte97-requires : tie.Need-byte97-requires
 byte97-requires c κs = search needs
