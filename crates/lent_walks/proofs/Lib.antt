@@ -4,4 +4,5 @@ pub mod LentWithOne
 pub mod LentWithBuffer
 pub mod LentCopy
 pub mod LentCopyWithBuffer
+pub mod LentPassedOn
 pub mod Looked

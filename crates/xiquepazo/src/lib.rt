@@ -13,9 +13,6 @@ use image_calls::Shown;
 use image_calls::Tagged;
 use translation::CodeSet;
 
-mod over_event;
-mod over_port;
-
 // A service newly made on set 1 with four lock bits, or refusal 1.
 #[no_mangle]
 pub extern "C" fn xiquepazo_make(image: &mut Image, bits: u8) -> u8
@@ -44,7 +41,7 @@ pub extern "C" fn xiquepazo_to_set_1(image: &mut Image) -> Shown
     ensures { λ r. ⌜ (now (image .exit) ≡ changeTo CodeSet.One (now (image .entry)) .image)
         × (r ≡ changeTo CodeSet.One (now (image .entry)) .shown) ⌝ }
 {
-    let changed = over_event::to_set_one(*image);
+    let changed = image_over_event::to_set_one(*image);
     *image = changed.image;
     changed.shown
 }
@@ -55,7 +52,7 @@ pub extern "C" fn xiquepazo_to_set_2(image: &mut Image) -> Shown
     ensures { λ r. ⌜ (now (image .exit) ≡ changeTo CodeSet.Two (now (image .entry)) .image)
         × (r ≡ changeTo CodeSet.Two (now (image .entry)) .shown) ⌝ }
 {
-    let changed = over_event::to_set_two(*image);
+    let changed = image_over_event::to_set_two(*image);
     *image = changed.image;
     changed.shown
 }
@@ -66,9 +63,7 @@ pub extern "C" fn xiquepazo_event(image: &mut Image, event: Tagged) -> Shown
     ensures { λ r. ⌜ (now (image .exit) ≡ eventTo (now (image .entry)) event .image)
         × (r ≡ eventTo (now (image .entry)) event .shown) ⌝ }
 {
-    let changed = image_events::event(*image, event);
-    *image = changed.image;
-    changed.shown
+    image_lent::event(image, event)
 }
 
 // Any event, and its report at the start of the buffer; or refusal 6 or 9, and nothing is run or written.
@@ -78,7 +73,7 @@ pub extern "C" fn xiquepazo_report(image: &mut Image, event: Tagged, buffer: &mu
         × (r ≡ reportTo (now (image .entry)) event (now (buffer .entry)) .refusal)
         × (now (buffer .exit) ≡ writtenTo (now (image .entry)) event (now (buffer .entry))) ⌝ }
 {
-    let refused = over_event::report(*image, event, buffer);
+    let refused = image_over_event::report(*image, event, buffer);
     *image = refused.image;
     refused.refusal
 }
@@ -99,7 +94,7 @@ pub extern "C" fn xiquepazo_resynchronise(image: &mut Image) -> Shown
 pub extern "C" fn xiquepazo_flags(image: &Image) -> FlagBytes
     ensures { λ r. ⌜ r ≡ flagsTo (now (image .entry)) ⌝ }
 {
-    over_event::flag_bytes(*image)
+    image_lent::flag_bytes(*image)
 }
 
 // The event at a start in a pack, where the next begins, and refusal 6, 7, 8 or 10.
@@ -116,7 +111,7 @@ pub extern "C" fn xiquepazo_frame(image: &mut Image, frame: u16) -> Shown
     ensures { λ r. ⌜ (now (image .exit) ≡ frameTo (now (image .entry)) frame .image)
         × (r ≡ frameTo (now (image .entry)) frame .shown) ⌝ }
 {
-    let changed = over_event::frame(*image, frame);
+    let changed = image_over_event::frame(*image, frame);
     *image = changed.image;
     changed.shown
 }
@@ -135,7 +130,7 @@ pub extern "C" fn xiquepazo_from_keyboard(image: &mut Image, byte: u8) -> PortSh
     ensures { λ r. ⌜ (now (image .exit) ≡ portTo (now (image .entry)) (PortEvent.FromKeyboard byte) .image)
         × (r ≡ portTo (now (image .entry)) (PortEvent.FromKeyboard byte) .shown) ⌝ }
 {
-    let changed = over_port::from_keyboard(*image, byte);
+    let changed = image_ports::from_keyboard(*image, byte);
     *image = changed.image;
     changed.shown
 }
@@ -146,7 +141,7 @@ pub extern "C" fn xiquepazo_read_60(image: &mut Image) -> PortShown
     ensures { λ r. ⌜ (now (image .exit) ≡ portTo (now (image .entry)) PortEvent.Read60 .image)
         × (r ≡ portTo (now (image .entry)) PortEvent.Read60 .shown) ⌝ }
 {
-    let changed = over_port::read_60(*image);
+    let changed = image_ports::read_60(*image);
     *image = changed.image;
     changed.shown
 }
@@ -157,7 +152,7 @@ pub extern "C" fn xiquepazo_read_64(image: &mut Image) -> PortShown
     ensures { λ r. ⌜ (now (image .exit) ≡ portTo (now (image .entry)) PortEvent.Read64 .image)
         × (r ≡ portTo (now (image .entry)) PortEvent.Read64 .shown) ⌝ }
 {
-    let changed = over_port::read_64(*image);
+    let changed = image_ports::read_64(*image);
     *image = changed.image;
     changed.shown
 }
@@ -168,7 +163,7 @@ pub extern "C" fn xiquepazo_write_60(image: &mut Image, byte: u8) -> PortShown
     ensures { λ r. ⌜ (now (image .exit) ≡ portTo (now (image .entry)) (PortEvent.Write60 byte) .image)
         × (r ≡ portTo (now (image .entry)) (PortEvent.Write60 byte) .shown) ⌝ }
 {
-    let changed = over_port::write_60(*image, byte);
+    let changed = image_ports::write_60(*image, byte);
     *image = changed.image;
     changed.shown
 }
@@ -179,7 +174,7 @@ pub extern "C" fn xiquepazo_write_64(image: &mut Image, byte: u8) -> PortShown
     ensures { λ r. ⌜ (now (image .exit) ≡ portTo (now (image .entry)) (PortEvent.Write64 byte) .image)
         × (r ≡ portTo (now (image .entry)) (PortEvent.Write64 byte) .shown) ⌝ }
 {
-    let changed = over_port::write_64(*image, byte);
+    let changed = image_ports::write_64(*image, byte);
     *image = changed.image;
     changed.shown
 }

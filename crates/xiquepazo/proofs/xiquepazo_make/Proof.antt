@@ -2,7 +2,7 @@
 -- Assumes nothing.
 use Rattle.translation.specs.declared.CodeSet.the-variants.{One}
 use Rattle.image_calls.specs.Exports.{makeTo}
-use Rattle.xiquepazo.proofs.ImageTypes.{image, image-name, refused}
+use Rattle.image_lent.proofs.ImageTypes.{image, image-name, refused}
 use Rattle.lent_walks.proofs.Plain.{byte}
 use Rattle.lent_walks.proofs.LentWithOne.{proved}
 use Rattle.image_renewal.proofs.make.Symbol as core

@@ -1,7 +1,7 @@
 -- The proof of `xiquepazo::xiquepazo_resynchronise`: the walk of `LentAlone` over `image_renewal::resynchronise`.
 -- Assumes nothing.
 use Rattle.image_calls.specs.Exports.{resynchronisedTo}
-use Rattle.xiquepazo.proofs.ImageTypes.{image, image-name, shown, changed}
+use Rattle.image_lent.proofs.ImageTypes.{image, image-name, shown, changed}
 use Rattle.lent_walks.proofs.LentAlone.{proved}
 use Rattle.image_renewal.proofs.resynchronise.Symbol as core
 use Rattle.image_renewal.proofs.resynchronise.Met as core-met
