@@ -30,7 +30,7 @@ fn old_answer(oldest: Oldest) -> Answer
 {
     match oldest {
         Oldest::None => Answer::NoWord,
-        Oldest::Is(word) => Answer::Returned(word::as_old(word)),
+        Oldest::Is(word) => Answer::Returned(word_conversion::as_old(word)),
     }
 }
 

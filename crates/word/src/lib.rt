@@ -1,7 +1,6 @@
 // Scan codes, ASCII bytes and the words made of them. The three types are built and opened in this crate only.
 ghost use mathlib.Core.Path.{_≡_};
 ghost use Rattle.word.specs.Word.{codeOf, asciiOf, isCode, within, tableIndex, wordWith, isEnhanced, wordFrom, numberOf};
-ghost use Rattle.word.specs.OldWord.{hasBytes, oldWordOf};
 
 // The number of a key.
 pub struct ScanCode(u8);
@@ -72,40 +71,6 @@ pub fn is_enhanced(word: Word) -> bool
     ensures { λ r. ⌜ r ≡ isEnhanced word ⌝ }
 {
     (0x85 <= word.scan.0) & (word.ascii.0 == 0x00)
-}
-
-fn has_bytes(word: Word, high: u8, low: u8) -> bool
-    ensures { λ r. ⌜ r ≡ hasBytes high low word ⌝ }
-{
-    (word.scan.0 == high) & (word.ascii.0 == low)
-}
-
-fn converted(word: Word) -> Word
-    ensures { λ r. ⌜ r ≡ oldWordOf word ⌝ }
-{
-    if has_bytes(word, 0xE0, 0x0D) {
-        return from_number(0x1C0D);
-    }
-    if has_bytes(word, 0xE0, 0x0A) {
-        return from_number(0x1C0A);
-    }
-    if has_bytes(word, 0xE0, 0x2F) {
-        return from_number(0x352F);
-    }
-    if !(word.scan.0 == 0x00) & (word.ascii.0 == 0xE0) {
-        return joined(word.scan, Ascii(0x00));
-    }
-    word
-}
-
-// What functions 00 and 01 return for the word: for most, which have no E0, the word itself at once.
-pub fn as_old(word: Word) -> Word
-    ensures { λ r. ⌜ r ≡ oldWordOf word ⌝ }
-{
-    if (word.scan.0 == 0xE0) | (word.ascii.0 == 0xE0) {
-        return converted(word);
-    }
-    word
 }
 
 // The word of a 16-bit number, scan code high.

@@ -1,11 +1,13 @@
--- The proof of `word::converted`.
+-- The proof of `word_conversion::converted`.
 -- Assumes nothing.
-use mathlib.Core.Path.{sym, _∙_}
+use mathlib.Core.Path.{sym, ap, _∙_}
+use Prim.Native.Nat.{ℕ}
 use Rattle.bits.specs.Choice.{if_then_else_}
+use Rattle.word.specs.Word.{codeOf, asciiOf, wordWith}
 use Rattle.word.specs.OldWord.{oldWordOf}
 use borrow.Author.Needs.{needs}
-use Rattle.word.proofs.converted.Statement.{statement}
-use Rattle.word.proofs.converted.Tie as tie
+use Rattle.word_conversion.proofs.converted.Statement.{statement}
+use Rattle.word_conversion.proofs.converted.Tie as tie
 
 has-bytes-requires : tie.Need-has-bytes-requires
 has-bytes-requires c κs = search needs
@@ -42,24 +44,40 @@ returns-3 c =
     let f = g .before .before in
     simp (c .from-number3 .ensures, sym (c .before .before .has-bytes3 .ensures) ∙ c .before .if3 .taken, sym (g .before .has-bytes2 .ensures) ∙ g .if2 .left, sym (f .before .has-bytes .ensures) ∙ f .if1 .left)
 
+high-requires : tie.Need-high-requires
+high-requires c κs = search needs
+
+low-requires : tie.Need-low-requires
+low-requires c κs = search needs
+
+scan-code-requires : tie.Need-scan-code-requires
+scan-code-requires c κs = search needs
+
+ascii-byte-requires : tie.Need-ascii-byte-requires
+ascii-byte-requires c κs = search needs
+
 joined-requires : tie.Need-joined-requires
 joined-requires c κs = search needs
 
 returns-4 : tie.Need-returns-4
 unfolding oldWordOf if_then_else_
 returns-4 c =
-    let h = c .before .before .before .before in
+    let made = c .before .before in
+    let bytes = made .before .before in
+    let h = bytes .before .before in
     let g = h .before .before in
     let f = g .before .before in
-    simp (c .joined .ensures, c .before .if4 .taken, sym (h .before .has-bytes3 .ensures) ∙ h .if3 .left, sym (g .before .has-bytes2 .ensures) ∙ g .if2 .left, sym (f .before .has-bytes .ensures) ∙ f .if1 .left)
+    simp (c .joined .ensures, c .before .ascii-byte .ensures, made .scan-code .ensures, ← (bytes .low .ensures), ← (bytes .before .high .ensures), made .before .if4 .taken, sym (h .before .has-bytes3 .ensures) ∙ h .if3 .left, sym (g .before .has-bytes2 .ensures) ∙ g .if2 .left, sym (f .before .has-bytes .ensures) ∙ f .if1 .left)
+    (ap (λ (high : ℕ). wordWith (codeOf high) (asciiOf 0x00)) (bytes .before .high .ensures))
 
 returns-5 : tie.Need-returns-5
 unfolding oldWordOf if_then_else_
 returns-5 c =
-    let h = c .before .before .before in
+    let bytes = c .before in
+    let h = bytes .before .before in
     let g = h .before .before in
     let f = g .before .before in
-    simp (c .if4 .left, sym (h .before .has-bytes3 .ensures) ∙ h .if3 .left, sym (g .before .has-bytes2 .ensures) ∙ g .if2 .left, sym (f .before .has-bytes .ensures) ∙ f .if1 .left)
+    simp (← (bytes .low .ensures), ← (bytes .before .high .ensures), c .if4 .left, sym (h .before .has-bytes3 .ensures) ∙ h .if3 .left, sym (g .before .has-bytes2 .ensures) ∙ g .if2 .left, sym (f .before .has-bytes .ensures) ∙ f .if1 .left)
 
 pub converted-spec : {M : Type 1} → statement M
 converted-spec =
@@ -74,6 +92,10 @@ converted-spec =
     has-bytes-requires-3
     from-number-requires-3
     returns-3
+    high-requires
+    low-requires
+    scan-code-requires
+    ascii-byte-requires
     joined-requires
     returns-4
     returns-5)
