@@ -16,7 +16,7 @@ pub fn make(service: &mut Service, bits: u8) -> u8
     ensures { λ r. ⌜ (now (service .exit) ≡ madeIn CodeSet.One (now (service .entry)) bits .service)
         × (r ≡ madeIn CodeSet.One (now (service .entry)) bits .refusal) ⌝ }
 {
-    let tried = lent_by_value::make(*service, bits);
+    let tried = lent_making::make(*service, bits);
     *service = tried.service;
     tried.refusal
 }
@@ -26,7 +26,7 @@ pub fn make_set_two(service: &mut Service, bits: u8) -> u8
     ensures { λ r. ⌜ (now (service .exit) ≡ madeIn CodeSet.Two (now (service .entry)) bits .service)
         × (r ≡ madeIn CodeSet.Two (now (service .entry)) bits .refusal) ⌝ }
 {
-    let tried = lent_by_value::make_set_two(*service, bits);
+    let tried = lent_making::make_set_two(*service, bits);
     *service = tried.service;
     tried.refusal
 }
@@ -56,7 +56,7 @@ pub fn change(service: &mut Service, set: CodeSet) -> Answered
     ensures { λ r. ⌜ (now (service .exit) ≡ changeIn (now (service .entry)) set .service)
         × (r ≡ changeIn (now (service .entry)) set .answered) ⌝ }
 {
-    let stepped = lent_by_value::change(*service, set);
+    let stepped = lent_making::change(*service, set);
     *service = stepped.service;
     stepped.answered
 }
@@ -87,7 +87,7 @@ pub fn resynchronise(service: &mut Service) -> Answered
     ensures { λ r. ⌜ (now (service .exit) ≡ resynchronisedIn (now (service .entry)) .service)
         × (r ≡ resynchronisedIn (now (service .entry)) .answered) ⌝ }
 {
-    let stepped = lent_by_value::resynchronise(*service);
+    let stepped = lent_making::resynchronise(*service);
     *service = stepped.service;
     stepped.answered
 }

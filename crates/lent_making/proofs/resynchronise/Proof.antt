@@ -1,9 +1,9 @@
--- The proof of `lent_by_value::resynchronise`.
+-- The proof of `lent_making::resynchronise`.
 -- Assumes nothing.
 use Rattle.lent_calls.specs.Lent.{resynchronisedIn}
 use borrow.Author.Needs.{needs}
-use Rattle.lent_by_value.proofs.resynchronise.Statement.{statement}
-use Rattle.lent_by_value.proofs.resynchronise.Tie as tie
+use Rattle.lent_making.proofs.resynchronise.Statement.{statement}
+use Rattle.lent_making.proofs.resynchronise.Tie as tie
 
 resynchronise-requires : tie.Need-resynchronise-requires
 resynchronise-requires c κs = search needs
