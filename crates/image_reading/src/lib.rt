@@ -81,14 +81,14 @@ fn next_start(pack: &[u8], start: usize) -> usize
     requires { ⌜ start ≤ length (now pack) ⌝ }
     ensures { λ r. ⌜ r ≡ beginsAt (now (pack .entry)) (restOf (firstOf (drop start (now (pack .entry)))) (drop start (now (pack .entry)))) ⌝ }
 {
-    let rest = pack::rest(&pack[start..]);
+    let rest = pack_reading::rest(&pack[start..]);
     pack.len() - rest.len()
 }
 
 pub fn read_at(pack: &[u8], start: usize) -> Reading
     ensures { λ r. ⌜ r ≡ readTo (now (pack .entry)) start ⌝ }
 {
-    let read = pack::read_event(pack, start);
+    let read = pack_reading::read_event(pack, start);
     let Read::Event(event, _) = read else {
         return Reading {
             next: start,

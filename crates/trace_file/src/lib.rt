@@ -7,7 +7,7 @@ ghost use Rattle.trace.specs.Parts.{partLength};
 use libc::STDOUT_FILENO;
 
 // One byte more than a pack may have, so that a longer one is seen to be too long.
-const INPUT: usize = pack::LIMIT + 1;
+const INPUT: usize = pack_reading::LIMIT + 1;
 
 // What came of a trace: written whole, or a read or a write failed, and errno says why.
 pub enum Traced {

@@ -80,7 +80,7 @@ fn place_at(service: Service, offset: u16) -> Place
 fn refusal_at(pack: &[u8], offset: u16) -> u8
     ensures { λ r. ⌜ r ≡ refusalOf (readAt (now (pack .entry)) offset) ⌝ }
 {
-    let read = pack::read_event(pack, offset as usize);
+    let read = pack_reading::read_event(pack, offset as usize);
     pack::refusal(read)
 }
 
@@ -95,11 +95,11 @@ pub fn next_part(pack: &[u8], place: Place, text: &mut [u8; PART]) -> Part
     let mut service = place.service;
     let mut offset = place.offset;
     let start = offset as usize;
-    let mut part = pack::part_at(pack, start);
+    let mut part = pack_reading::part_at(pack, start);
     let mut at: usize = 0;
     let mut left = REPORTS;
     while 0 < left {
-        let read = pack::read_first(part);
+        let read = pack_reading::read_first(part);
         let Read::Event(event, bytes) = read else {
             return close_at(service, offset, refusal_at(pack, offset), text, at);
         };

@@ -1,10 +1,10 @@
--- The proof of `pack::read_event`.
+-- The proof of `pack_reading::read_event`.
 -- Assumes nothing.
 use Rattle.pack.proofs.Reading.{to-end, read-too-long, read-beyond, read-within}
 use native.Mathlib.Omega.{arith}
 use borrow.Author.Needs.{needs}
-use Rattle.pack.proofs.read_event.Statement.{statement}
-use Rattle.pack.proofs.read_event.Tie as tie
+use Rattle.pack_reading.proofs.read_event.Statement.{statement}
+use Rattle.pack_reading.proofs.read_event.Tie as tie
 
 returns : tie.Need-returns
 returns c = rw (read-too-long (c .before .before .args .pack .now) (c .before .before .args .start) (omega arith))

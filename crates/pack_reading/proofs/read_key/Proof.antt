@@ -1,11 +1,11 @@
--- The proof of `pack::read_key`.
+-- The proof of `pack_reading::read_key`.
 -- Assumes nothing.
 use native.Mathlib.Omega.{arith}
 use Rattle.events.specs.declared.Event.the-variants.{Key}
 use Rattle.pack.proofs.Reading.{byte-cut, byte-whole}
 use borrow.Author.Needs.{needs}
-use Rattle.pack.proofs.read_key.Statement.{statement}
-use Rattle.pack.proofs.read_key.Tie as tie
+use Rattle.pack_reading.proofs.read_key.Statement.{statement}
+use Rattle.pack_reading.proofs.read_key.Tie as tie
 
 returns : tie.Need-returns
 returns c = rw (byte-cut Key (c .before .args .operands .now) (omega arith))

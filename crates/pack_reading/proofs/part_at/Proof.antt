@@ -1,10 +1,10 @@
--- The proof of `pack::part_at`.
+-- The proof of `pack_reading::part_at`.
 -- Assumes nothing.
 use native.Mathlib.Omega.{arith}
 use Rattle.pack.proofs.Reading.{to-end, part-too-long, part-within, part-beyond}
 use borrow.Author.Needs.{needs}
-use Rattle.pack.proofs.part_at.Statement.{statement}
-use Rattle.pack.proofs.part_at.Tie as tie
+use Rattle.pack_reading.proofs.part_at.Statement.{statement}
+use Rattle.pack_reading.proofs.part_at.Tie as tie
 
 slice-aggregate-result : tie.Need-slice-aggregate-result
 slice-aggregate-result c = search needs

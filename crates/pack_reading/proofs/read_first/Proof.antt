@@ -1,10 +1,10 @@
--- The proof of `pack::read_first`.
+-- The proof of `pack_reading::read_first`.
 -- Assumes nothing.
 use native.Mathlib.Omega.{arith}
 use Rattle.pack.proofs.Reading.{to-end, first-none, first-some}
 use borrow.Author.Needs.{needs}
-use Rattle.pack.proofs.read_first.Statement.{statement}
-use Rattle.pack.proofs.read_first.Tie as tie
+use Rattle.pack_reading.proofs.read_first.Statement.{statement}
+use Rattle.pack_reading.proofs.read_first.Tie as tie
 
 returns : tie.Need-returns
 returns c = rw (first-none (c .before .before .args .part .now) (omega arith))

@@ -1,11 +1,11 @@
--- The proof of `pack::read_tagged`.
+-- The proof of `pack_reading::read_tagged`.
 -- Assumes nothing.
 use borrow.Author.Tests.{eq-eqb, ne-eqb}
 use Rattle.bits.specs.Choice.{if_then_else_}
 use Rattle.pack.specs.Reading.{taggedOf}
 use borrow.Author.Needs.{needs}
-use Rattle.pack.proofs.read_tagged.Statement.{statement}
-use Rattle.pack.proofs.read_tagged.Tie as tie
+use Rattle.pack_reading.proofs.read_tagged.Statement.{statement}
+use Rattle.pack_reading.proofs.read_tagged.Tie as tie
 
 read-key-requires : tie.Need-read-key-requires
 read-key-requires c κs = search needs

@@ -1,10 +1,10 @@
--- The proof of `pack::read_call`.
+-- The proof of `pack_reading::read_call`.
 -- Assumes nothing.
 use native.Mathlib.Omega.{arith}
 use Rattle.pack.proofs.Reading.{call-cut, call-whole}
 use borrow.Author.Needs.{needs}
-use Rattle.pack.proofs.read_call.Statement.{statement}
-use Rattle.pack.proofs.read_call.Tie as tie
+use Rattle.pack_reading.proofs.read_call.Statement.{statement}
+use Rattle.pack_reading.proofs.read_call.Tie as tie
 
 returns : tie.Need-returns
 returns c = rw (call-cut (c .before .args .operands .now) (omega arith))

@@ -1,14 +1,14 @@
--- The proof of `pack::rest`.
+-- The proof of `pack_reading::rest`.
 -- Assumes nothing.
 use Rattle.pack.proofs.Reading.{to-end, no-event, kept}
 use Rattle.pack.proofs.Events.{read-is-encoded}
 use Rattle.pack.specs.Laws.{First, Stops}
 use Rattle.pack.specs.Reading.{firstOf}
 use mathlib.Core.Path.{sym, subst, _∙_}
 use native.Mathlib.Omega.{arith}
 use borrow.Author.Needs.{needs}
-use Rattle.pack.proofs.rest.Statement.{statement}
-use Rattle.pack.proofs.rest.Tie as tie
+use Rattle.pack_reading.proofs.rest.Statement.{statement}
+use Rattle.pack_reading.proofs.rest.Tie as tie
 
 read-first-requires : tie.Need-read-first-requires
 read-first-requires c κs = search needs
