@@ -173,10 +173,10 @@ struct xiquepazo_setting {
     uint8_t value; /* a rate 0 to 127, by its last seven bits; a LED value 0 to 7, by its last three */
 };
 
-/* The command that runs. Without one the five numbers after `phase` are 0, and not read. */
+/* The command that runs. Without one `kind` tells whose turn it is, and the four numbers behind it are 0, and not read. */
 struct xiquepazo_command {
     uint8_t phase;   /* 0 idle, 1 a reply is awaited, 2 a poll is due; any other number is idle */
-    uint8_t kind;    /* 0 LED; any other number is rate, written as 1 */
+    uint8_t kind;    /* 0 LED; any other number is rate, written as 1. On an idle line, which of the two goes first where both are due */
     uint8_t value;   /* of a LED command 0 to 7, by its last three bits; of a rate command 0 to 127, by its last seven */
     uint8_t operand; /* 1 while the second byte is under way, else 0; more is 1 */
     uint8_t sends;   /* of the byte under way, 0 to 3; more is 3 */
@@ -453,7 +453,7 @@ static inline struct xiquepazo_shown xiquepazo_empty(struct xiquepazo_service *s
     return xiquepazo_tag(service, 'E', 0, 0, 0);
 }
 
-/* Restarts the line: idle, byte 97 zero, no rate waits, no LED value handled; and makes the controller new. */
+/* Restarts the line: idle, byte 97 zero, no rate waits, no LED value handled, the LED value's turn; and makes the controller new. */
 static inline struct xiquepazo_shown xiquepazo_restart(struct xiquepazo_service *service)
 {
     return xiquepazo_tag(service, 'R', 0, 0, 0);

@@ -141,7 +141,7 @@ call-in service function a b h =
     (take-in asStored service h)
     (look-in asStored service h)
     (λ high low. answered-in service _ h)
-    (rate-in service a b h)
+    (λ _. rate-in service a b h)
     (offered-in service _ _ _ h)
     (answered-in service _ h)
 

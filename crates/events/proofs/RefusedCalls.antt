@@ -156,7 +156,7 @@ call-keeps service function a b =
     (take-keeps asStored service service)
     (look-keeps asStored service service)
     (λ high low. accepting (record { low = refl }))
-    (either (Keeps service) _ _ _ (unchanged _ refl refl) (either (Keeps service) _ _ _ (unchanged _ refl refl) (accepting (record { low = refl }))))
+    (λ _. either (Keeps service) _ _ _ (unchanged _ refl refl) (either (Keeps service) _ _ _ (unchanged _ refl refl) (accepting (record { low = refl }))))
     (store-keeps service word (queue.putOf (service .queue) word) (put-unstored (service .queue) word) _ refl)
     (unchanged _ refl refl)
 

@@ -228,11 +228,11 @@ passed-on service codes Nothing = record { same = refl }
 passed-on service codes (Byte byte) = record { same = ap (λ (o : Outcome). o .service .codes) (read-apart service codes byte) }
 
 call-on : (service : Service) (function a b : ℕ) → On (service .codes) (stepOf service (Call function a b))
-unfolding stepOf forOldProgram takeOf lookOf statusOf setRateOf storeOf offeredOf answeredOf
+unfolding stepOf forOldProgram takeOf lookOf statusOf setRateOf offeredOf answeredOf
 call-on service function a b =
     call-by (On (service .codes)) service function a b (record { same = refl }) (record { same = refl }) (record { same = refl }) (record { same = refl })
     (λ high low. record { same = refl })
-    (either (On (service .codes)) _ _ _ (record { same = refl }) (either (On (service .codes)) _ _ _ (record { same = refl }) (record { same = refl })))
+    (λ _. either (On (service .codes)) _ _ _ (record { same = refl }) (either (On (service .codes)) _ _ _ (record { same = refl }) (record { same = refl })))
     (record { same = refl }) (record { same = refl })
 
 scan-on : (service : Service) (byte : ℕ) → On (service .codes) (scanOf service byte)

@@ -32,7 +32,7 @@ countAt earlier (Scan byte) shown = earlier + bytesShown shown
 
 -- a count goes on while its command runs
 abbrev pub carriedOn : Phase → ℕ → ℕ
-carriedOn Idle count = 0
+carriedOn (Idle turn) count = 0
 carriedOn (Awaiting command) count = count
 carriedOn (Ready command) count = count
 

@@ -219,7 +219,7 @@ command-back command h phase =
 
 phase-back : (phase : Phase) → PhaseInRange phase → phaseAt (phaseImage phase) ≡ phase
 unfolding phaseAt if_then_else_
-phase-back Idle h = refl
+phase-back (Idle turn) h = ap Idle (kind-back turn)
 phase-back (Awaiting command) h = ap Awaiting (command-back command h 1)
 phase-back (Ready command) h = ap Ready (command-back command h 2)
 

@@ -67,9 +67,9 @@ commandAt image =
       sent = min (image .sent) 6;
     }
 
--- an idle line is 0, an awaited reply 1, a poll that is due 2
+-- an idle line is 0, with the kind whose turn it is; an awaited reply 1, a poll that is due 2
 abbrev pub phaseImage : Phase → CommandImage
-phaseImage Idle = record { phase = 0; kind = 0; value = 0; operand = 0; sends = 0; sent = 0 }
+phaseImage (Idle turn) = record { phase = 0; kind = kindNumber turn; value = 0; operand = 0; sends = 0; sent = 0 }
 phaseImage (Awaiting command) = commandImage 1 command
 phaseImage (Ready command) = commandImage 2 command
 
@@ -78,7 +78,7 @@ unfoldable pub phaseAt : CommandImage → Phase
 phaseAt image =
     if eqb (image .phase) 1 then Awaiting (commandAt image)
     else if eqb (image .phase) 2 then Ready (commandAt image)
-    else Idle
+    else Idle (kindAt (image .kind))
 
 abbrev pub marksAt : ℕ → Marks
 marksAt byte97 =

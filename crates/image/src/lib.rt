@@ -20,7 +20,7 @@ pub struct SettingImage {
 }
 
 // `phase` is 0 for idle, 1 while a reply is awaited, 2 where a poll is due; any other number is read as idle. `kind` is 0 for a LED command, else a
-// rate command. An idle line has no command, and the five numbers after its phase are 0.
+// rate command. An idle line has no command: `kind` is then the kind whose turn it is, and the four numbers behind it are 0.
 #[repr(C)]
 pub struct CommandImage {
     pub phase: u8,

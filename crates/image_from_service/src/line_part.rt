@@ -46,9 +46,9 @@ fn phase_image(phase: Phase) -> CommandImage
     ensures { λ r. ⌜ r ≡ phaseImage phase ⌝ }
 {
     match phase {
-        Phase::Idle => CommandImage {
+        Phase::Idle(turn) => CommandImage {
             phase: 0,
-            kind: 0,
+            kind: kind_number(turn),
             value: 0,
             operand: 0,
             sends: 0,

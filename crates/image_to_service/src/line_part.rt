@@ -70,7 +70,7 @@ fn phase_of(image: CommandImage) -> Phase
     if image.phase == 2 {
         return Phase::Ready(command_of(image));
     }
-    Phase::Idle
+    Phase::Idle(kind_of(image.kind))
 }
 
 fn marks_of(byte97: u8) -> Marks

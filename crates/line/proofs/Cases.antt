@@ -6,10 +6,12 @@ use mathlib.Core.Path.{_≡_, refl}
 use lib.Dec.{ltb}
 use borrow.Author.Tests.{ltb-true, ltb-false}
 use Rattle.bits.proofs.Choice.{by-test}
-use Rattle.line.specs.State.{inPhaseOf, unchangedOf}
+use Rattle.bits.proofs.Tests.{not-both}
+use Rattle.line.specs.State.{isLedOf, otherOf, inPhaseOf, unchangedOf}
 use Rattle.line.specs.Poll.{nextOf, sendOf, startOf, startNextOf, idlePollOf, pollIn, pollOf}
 use Rattle.line.specs.Reply.{markAcknowledgedOf, markDoneOf, markAbandonedOf, endedOf, operandOf, acknowledgedOf, failedOf, replyIn, acknowledgeOf}
 use Rattle.line.specs.declared.Kind.{Kind}
+use Rattle.line.specs.declared.Kind.the-variants.{Led, Rate}
 use Rattle.line.specs.declared.Command.{Command}
 use Rattle.line.specs.declared.Phase.{Phase}
 use Rattle.line.specs.declared.Phase.the-variants.{Idle, Awaiting, Ready}
@@ -23,6 +25,17 @@ use Rattle.line.specs.declared.Outcome.{Outcome}
 abbrev pub outcome : Line → Answer → Command → Outcome
 outcome line answer command = record { line = line; answer = answer; sent = command .sent }
 
+-- whose turn a command leaves, by its test
+pub after-led : (kind : Kind) → isLedOf kind ≡ true → otherOf kind ≡ Rate
+unfolding otherOf isLedOf
+after-led Led t = refl
+after-led Rate t = not-both t refl
+
+pub after-rate : (kind : Kind) → isLedOf kind ≡ false → otherOf kind ≡ Led
+unfolding otherOf isLedOf
+after-rate Led t = not-both refl t
+after-rate Rate t = refl
+
 module _ (P : Outcome → Type 0) (line : Line) where
   -- ---- a poll
   next-cases : (next : Next) → P (unchangedOf line Quiet) → ((kind : Kind) (value : ℕ) → next ≡ Start kind value → P (startOf line kind value)) → P (startNextOf line next)
@@ -31,15 +44,15 @@ module _ (P : Outcome → Type 0) (line : Line) where
   next-cases (Start kind value) quiet start = start kind value refl
 
   poll-in : (led : ℕ) (phase : Phase) → P (unchangedOf line Quiet) →
-      ((kind : Kind) (value : ℕ) → phase ≡ Idle → nextOf line led ≡ Start kind value → P (startOf line kind value)) →
+      ((turn kind : Kind) (value : ℕ) → phase ≡ Idle turn → nextOf line turn led ≡ Start kind value → P (startOf line kind value)) →
       ((command : Command) → phase ≡ Ready command → P (sendOf line command)) → P (pollIn line led phase)
   unfolding pollIn idlePollOf
-  poll-in led Idle quiet start ready = next-cases (nextOf line led) quiet (λ kind value. start kind value refl)
+  poll-in led (Idle turn) quiet start ready = next-cases (nextOf line turn led) quiet (λ kind value. start turn kind value refl)
   poll-in led (Awaiting command) quiet start ready = quiet
   poll-in led (Ready command) quiet start ready = ready command refl
 
   pub poll-cases : (led : ℕ) → P (unchangedOf line Quiet) →
-      ((kind : Kind) (value : ℕ) → line .phase ≡ Idle → nextOf line led ≡ Start kind value → P (startOf line kind value)) →
+      ((turn kind : Kind) (value : ℕ) → line .phase ≡ Idle turn → nextOf line turn led ≡ Start kind value → P (startOf line kind value)) →
       ((command : Command) → line .phase ≡ Ready command → P (sendOf line command)) → P (pollOf line led)
   unfolding pollOf
   poll-cases led = poll-in led (line .phase)
@@ -48,7 +61,7 @@ module _ (P : Outcome → Type 0) (line : Line) where
   reply-in : (taken : Command → Outcome) (phase : Phase) → P (unchangedOf line Ignored) →
       ((command : Command) → phase ≡ Awaiting command → P (taken command)) → P (replyIn line taken phase)
   unfolding replyIn
-  reply-in taken Idle ignored awaited = ignored
+  reply-in taken (Idle turn) ignored awaited = ignored
   reply-in taken (Awaiting command) ignored awaited = awaited command refl
   reply-in taken (Ready command) ignored awaited = ignored
 

@@ -26,13 +26,13 @@ sent-at line phase e = ap sentIn e
 
 carried-in : (phase : Phase) → CarriedIn phase (sentIn phase)
 unfolding sentIn
-carried-in Idle = tt
+carried-in (Idle turn) = tt
 carried-in (Awaiting command) = refl
 carried-in (Ready command) = refl
 
 most-in : (phase : Phase) → WithinIn phase → sentIn phase ≤ 6
 unfolding sentIn
-most-in Idle h = omega arith
+most-in (Idle turn) h = omega arith
 most-in (Awaiting command) h = omega (arith, h .each, h .all, earlier (command .operand))
 most-in (Ready command) h = omega (arith, h .each, h .all, earlier (command .operand))
 
@@ -54,7 +54,7 @@ module _ (line : Line) (h : Within line) where
   unfolding startOf sendOf countedOf oneMoreOf sentIn if_then_else_
   poll-counts led =
       poll-cases (Counts line) line led (unchanged Quiet refl)
-      (λ kind value e n. record { shown = simp (sent-at line Idle e); most = omega arith; carried = refl })
+      (λ turn kind value e n. record { shown = simp (sent-at line (Idle turn) e); most = omega arith; carried = refl })
       (λ command e.
       let k : Counted command 2 = rw e at h in
       let one : oneMoreOf (command .sent) 6 ≡ command .sent + 1 = one-more (command .sent) 6 (sent-below command k) in
@@ -99,7 +99,7 @@ pub send-counts : SendCounts
 unfolding unchangedOf startOf sendOf countedOf oneMoreOf if_then_else_
 send-counts line led h =
     poll-cases (λ (o : Outcome). sendsIn (o .line .phase) ≡ sendsIn (line .phase) + sendsBy (o .answer)) line led (omega arith)
-    (λ kind value e n. simp e)
+    (λ turn kind value e n. simp e)
     (λ command e.
     let k : Counted command 2 = rw e at h in
     let one : oneMoreOf (command .sends) 3 ≡ command .sends + 1 = one-more (command .sends) 3 (omega (arith, k .each)) in

@@ -4,3 +4,5 @@ pub mod Ranges
 pub mod Counts
 pub mod Settled
 pub mod Operand
+pub mod Turns
+pub mod Replies

@@ -8,7 +8,7 @@ use borrow.Author.Tests.{ltb-true}
 use lib.Dec.{ltb}
 use Rattle.bits.proofs.Choice.{by-test, either}
 use Rattle.line.specs.State.{newLine, waitRateOf, unchangedOf, isLedOf}
-use Rattle.line.specs.Poll.{oneMoreOf, countedOf, sendOf, rateLeftOf, startOf, waitingOf, nextOf, pollOf}
+use Rattle.line.specs.Poll.{oneMoreOf, countedOf, sendOf, rateLeftOf, startOf, waitingOf, unhandledOf, firstOf, inTurnOf, nextOf, pollOf}
 use Rattle.line.specs.Reply.{markAcknowledgedOf, markResendOf, markDoneOf, markAbandonedOf, operandOf, endedOf, failedOf, replyIn, acknowledgeOf, resendOf, timeOutOf}
 use Rattle.line.specs.Inputs.{Input, poll, acknowledge, resend, timeOut, restart, waitRate, lineAfter}
 use Rattle.line.specs.Ranges.{ledValues, rateValues, valuesOf, SettingBelow, CommandInRange, LineInRange, InputInRange, LineStaysInRange}
@@ -52,9 +52,19 @@ unfolding waitingOf
 waiting-in None h = tt
 waiting-in (Value rate) h = h
 
-next-in : (line : Line) (led : ℕ) → LineInRange line → led < ledValues → NextInRange (nextOf line led)
-unfolding nextOf
-next-in line led h l = either NextInRange _ _ _ (waiting-in (line .rate) (h .rate)) l
+first-in : (first second : Next) → NextInRange first → NextInRange second → NextInRange (firstOf first second)
+unfolding firstOf
+first-in Nothing second f s = s
+first-in (Start kind value) second f s = f
+
+in-turn-in : (turn : Kind) (led rate : Next) → NextInRange led → NextInRange rate → NextInRange (inTurnOf turn led rate)
+unfolding inTurnOf
+in-turn-in Led led rate l r = search (first-in, l, r)
+in-turn-in Rate led rate l r = search (first-in, l, r)
+
+next-in : (line : Line) (turn : Kind) (led : ℕ) → LineInRange line → led < ledValues → NextInRange (nextOf line turn led)
+unfolding nextOf unhandledOf
+next-in line turn led h l = in-turn-in turn _ _ (either NextInRange _ _ _ tt l) (waiting-in (line .rate) (h .rate))
 
 left-in : (rate : Setting) (kind : Kind) → SettingBelow rateValues rate → SettingBelow rateValues (rateLeftOf rate kind)
 unfolding rateLeftOf
@@ -64,7 +74,7 @@ left-in rate Rate h = tt
 start-in : (line : Line) (kind : Kind) (value : ℕ) → LineInRange line → value < valuesOf kind → LineInRange (startOf line kind value .line)
 unfolding startOf
 start-in line kind value h v =
-    send-in _ _ (record { phase = tt; handled = h .handled; rate = left-in (line .rate) kind (h .rate); done = h .done }) v
+    send-in _ _ (record { phase = h .phase; handled = h .handled; rate = left-in (line .rate) kind (h .rate); done = h .done }) v
 
 -- ---- the end of a command
 
@@ -99,7 +109,7 @@ module _ (line : Line) (h : LineInRange line) where
   unfolding unchangedOf
   poll-in led l =
       poll-cases (λ (o : Outcome). LineInRange (o .line)) line led h
-      (λ kind value e n. let found : NextInRange (Start kind value) = rw n at (next-in line led h l) in start-in line kind value h found)
+      (λ turn kind value e n. let found : NextInRange (Start kind value) = rw n at (next-in line turn led h l) in start-in line kind value h found)
       (λ command e. let k : CommandInRange command = rw e at (h .phase) in send-in line command h (k .value))
 
   acknowledge-in : LineInRange (acknowledgeOf line .line)

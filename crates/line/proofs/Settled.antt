@@ -8,7 +8,7 @@ use mathlib.Core.Path.{_≡_, refl}
 use borrow.Author.Tests.{le-ltb, eq-eqb}
 use Rattle.bits.specs.Choice.{if_then_else_}
 use Rattle.line.specs.State.{waitRateOf, isLedOf, ledRunsIn, ledRunsOf, isValueOf, unchangedOf}
-use Rattle.line.specs.Poll.{waitingOf, nextOf, firstByteOf, dueOf, countedOf, sendOf, startOf, pollOf}
+use Rattle.line.specs.Poll.{waitingOf, unhandledOf, firstOf, inTurnOf, nextOf, firstByteOf, dueOf, countedOf, sendOf, startOf, pollOf}
 use Rattle.line.specs.Reply.{markAcknowledgedOf, markAbandonedOf, operandOf, markResendOf, markDoneOf, endedOf, failedOf, replyIn, acknowledgeOf, resendOf, timeOutOf}
 use Rattle.line.specs.Inputs.{Input, poll, acknowledge, resend, timeOut, restart, waitRate, lineAfter}
 use Rattle.line.specs.Laws.{Settled, Abandons, GivesUp, Standing, StaysSettled, NoSecondStart, NotStartedAgain}
@@ -19,7 +19,7 @@ use Rattle.line.specs.declared.Phase.the-variants.{Awaiting}
 use Rattle.line.specs.declared.Setting.{Setting}
 use Rattle.line.specs.declared.Setting.the-variants.{None, Value}
 use Rattle.line.specs.declared.Line.{Line}
-use Rattle.line.specs.declared.Next.the-variants.{Start}
+use Rattle.line.specs.declared.Next.the-variants.{Nothing, Start}
 use Rattle.line.specs.declared.Answer.the-variants.{Send}
 use Rattle.line.specs.declared.Outcome.{Outcome}
 use Rattle.line.proofs.Cases.{poll-cases, acknowledge-cases, failed-cases}
@@ -44,18 +44,24 @@ unfolding waitingOf
 waiting-rate None kind value e = cc
 waiting-rate (Value known) kind value e = cc
 
-next-rate : (value : ℕ) (line : Line) → line .handled ≡ Value value → (kind : Kind) (operand : ℕ) →
-    nextOf line value ≡ Start kind operand → kind ≡ Rate
-unfolding nextOf isValueOf if_then_else_
-next-rate value line h kind operand e =
-    waiting-rate (line .rate) kind operand (simp (h, eq-eqb value value refl) at e)
+alone : (turn : Kind) (rate : Setting) (kind : Kind) (value : ℕ) → inTurnOf turn Nothing (waitingOf rate) ≡ Start kind value → kind ≡ Rate
+unfolding inTurnOf firstOf waitingOf
+alone Led rate kind value e = waiting-rate rate kind value e
+alone Rate None kind value e = cc
+alone Rate (Value known) kind value e = cc
+
+next-rate : (value : ℕ) (line : Line) → line .handled ≡ Value value → (turn kind : Kind) (operand : ℕ) →
+    nextOf line turn value ≡ Start kind operand → kind ≡ Rate
+unfolding nextOf unhandledOf isValueOf if_then_else_
+next-rate value line h turn kind operand e =
+    alone turn (line .rate) kind operand (simp (h, eq-eqb value value refl) at e)
 
 module _ (value : ℕ) (line : Line) (s : Settled value line) where
   pub poll-settled : Settled value (pollOf line value .line)
   unfolding unchangedOf startOf sendOf countedOf ledRunsOf ledRunsIn isLedOf
   poll-settled =
       poll-cases (λ (o : Outcome). Settled value (o .line)) line value s
-      (λ kind operand e n. record { handled = s .handled; rests = simp (next-rate value line (s .handled) kind operand n) })
+      (λ turn kind operand e n. record { handled = s .handled; rests = simp (next-rate value line (s .handled) turn kind operand n) })
       (λ command e. record { handled = s .handled; rests = simp e at (s .rests) })
 
   -- the command whose reply is awaited is no LED command
@@ -119,11 +125,11 @@ not-started-again line command e k b inputs h =
 
 pub no-second-start : NoSecondStart
 unfolding unchangedOf startOf sendOf dueOf firstByteOf if_then_else_
-no-second-start value line i s =
+no-second-start value line idle i s =
     poll-cases (λ (o : Outcome). o .answer ≡ Send 0xED → ⊥) line value
     (λ q. let z : _≡_ {A = ℕ} 0 1 = cc in omega arith)
-    (λ kind operand e n q.
-    let r : kind ≡ Rate = next-rate value line (s .handled) kind operand n in
+    (λ turn kind operand e n q.
+    let r : kind ≡ Rate = next-rate value line (s .handled) turn kind operand n in
     let z : _≡_ {A = ℕ} 0xF3 0xED = cc in
     omega arith)
     (λ command e q. let z : _≡_ {A = ℕ} 0 1 = cc in omega arith)

@@ -44,7 +44,7 @@ module _ (line : Line) where
   unfolding unchangedOf startOf
   poll-within led h =
       poll-cases (λ (o : Outcome). Within (o .line)) line led h
-      (λ kind value e n. send-within _ _ (record { each = omega arith; all = omega arith }))
+      (λ turn kind value e n. send-within _ _ (record { each = omega arith; all = omega arith }))
       (λ command e. send-within line command (rw e at h))
 
   pub acknowledge-within : Within line → Within (acknowledgeOf line .line)

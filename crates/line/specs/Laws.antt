@@ -3,18 +3,21 @@
 use Prim.Native.Nat.{ℕ, _+_, _<_, _≤_}
 use mathlib.Core.Bool.{true, false}
 use mathlib.Core.List.{List, [], _∷_}
+use mathlib.Core.Logic.{_⊎_}
 use mathlib.Core.Path.{_≡_}
 use Rattle.bits.specs.Choice.{if_then_else_}
 use Rattle.line.specs.State.{newLine, sentOf, ledRunsOf, isValueOf}
-use Rattle.line.specs.Poll.{pollOf}
+use Rattle.line.specs.Poll.{nextOf, pollOf}
 use Rattle.line.specs.Reply.{acknowledgeOf, resendOf, timeOutOf}
 use Rattle.line.specs.Inputs.{Input, poll, acknowledge, resend, timeOut, restart, waitRate, lineAfter, lineAfterAll, sentAt}
+use Rattle.line.specs.declared.Kind.{Kind}
 use Rattle.line.specs.declared.Kind.the-variants.{Led}
 use Rattle.line.specs.declared.Command.{Command}
 use Rattle.line.specs.declared.Phase.{Phase}
 use Rattle.line.specs.declared.Phase.the-variants.{Idle, Awaiting, Ready}
-use Rattle.line.specs.declared.Setting.the-variants.{Value}
+use Rattle.line.specs.declared.Setting.the-variants.{None, Value}
 use Rattle.line.specs.declared.Line.{Line}
+use Rattle.line.specs.declared.Next.the-variants.{Start}
 use Rattle.line.specs.declared.Answer.{Answer}
 use Rattle.line.specs.declared.Answer.the-variants.{Send, Quiet, Taken, Ignored, GivenUp}
 use Rattle.line.specs.declared.Outcome.{Outcome}
@@ -28,7 +31,7 @@ pub record Counted (command : Command) (most : ℕ) : Type 0 where
 
 -- a byte that is still to be sent has a send left
 abbrev pub WithinIn : Phase → Type 0
-WithinIn Idle = Unit {0}
+WithinIn (Idle turn) = Unit {0}
 WithinIn (Awaiting command) = Counted command 3
 WithinIn (Ready command) = Counted command 2
 
@@ -53,7 +56,7 @@ sendsBy GivenUp = 0
 
 -- a command that runs on has this count
 abbrev pub CarriedIn : Phase → ℕ → Type 0
-CarriedIn Idle count = Unit {0}
+CarriedIn (Idle turn) count = Unit {0}
 CarriedIn (Awaiting command) count = command .sent ≡ count
 CarriedIn (Ready command) count = command .sent ≡ count
 
@@ -75,7 +78,7 @@ TrueCounts = (line : Line) → Within line → TrueCount line
 
 -- sends of the byte under way
 abbrev pub sendsIn : Phase → ℕ
-sendsIn Idle = 0
+sendsIn (Idle turn) = 0
 sendsIn (Awaiting command) = command .sends
 sendsIn (Ready command) = command .sends
 
@@ -128,7 +131,7 @@ StaysSettled =
 
 -- and an idle poll then sends no ED
 abbrev pub NoSecondStart : Type 0
-NoSecondStart = (value : ℕ) (line : Line) → line .phase ≡ Idle → Settled value line → pollOf line value .answer ≡ Send 0xED → ⊥
+NoSecondStart = (value : ℕ) (line : Line) (turn : Kind) → line .phase ≡ Idle turn → Settled value line → pollOf line value .answer ≡ Send 0xED → ⊥
 
 -- so whatever follows the giving up, no LED command runs while the locks stand
 abbrev pub NotStartedAgain : Type 0
@@ -146,13 +149,13 @@ pub record Same (command later : Command) : Type 0 where
 
 -- a command that runs later is this one
 abbrev pub HoldsIn : Command → Phase → Type 0
-HoldsIn command Idle = Unit {0}
+HoldsIn command (Idle turn) = Unit {0}
 HoldsIn command (Awaiting later) = Same command later
 HoldsIn command (Ready later) = Same command later
 
 -- a command that runs stays the one that runs, until it ends
 abbrev pub KeepsIn : Phase → Phase → Type 0
-KeepsIn Idle later = Unit {0}
+KeepsIn (Idle turn) later = Unit {0}
 KeepsIn (Awaiting command) later = HoldsIn command later
 KeepsIn (Ready command) later = HoldsIn command later
 
@@ -160,11 +163,21 @@ KeepsIn (Ready command) later = HoldsIn command later
 abbrev pub OperandStays : Type 0
 OperandStays = (line : Line) (input : Input) → KeepsIn (line .phase) (lineAfter line input .phase)
 
--- a LED command starts with the LED value of its first poll, and one send of one byte
+-- a LED command has the LED value of its first poll
+abbrev pub LedValueNow : Type 0
+LedValueNow = (line : Line) (turn : Kind) (led value : ℕ) → nextOf line turn led ≡ Start Led value → value ≡ led
+
+-- a command starts with its operand, and one send of one byte
 abbrev pub StartsWith : Type 0
 StartsWith =
-    (line : Line) (led : ℕ) → line .phase ≡ Idle → isValueOf (line .handled) led ≡ false →
-    pollOf line led .line .phase ≡ Awaiting (record { kind = Led; value = led; operand = false; sends = 1; sent = 1 })
+    (line : Line) (turn : Kind) (led : ℕ) (kind : Kind) (value : ℕ) → line .phase ≡ Idle turn → nextOf line turn led ≡ Start kind value →
+    pollOf line led .line .phase ≡ Awaiting (record { kind = kind; value = value; operand = false; sends = 1; sent = 1 })
+
+-- a due LED value that has the turn or is alone starts
+abbrev pub LedStarts : Type 0
+LedStarts =
+    (line : Line) (turn : Kind) (led : ℕ) → isValueOf (line .handled) led ≡ false → (turn ≡ Led) ⊎ (line .rate ≡ None) →
+    nextOf line turn led ≡ Start Led led
 
 -- the poll that sends the operand sends that value, whatever the LED value is by then
 abbrev pub SendsOperand : Type 0

@@ -5,3 +5,4 @@ pub mod Byte97
 pub mod Inputs
 pub mod Laws
 pub mod Ranges
+pub mod Turns

@@ -1,4 +1,4 @@
--- What a poll sends: document 01, "The line", up to the send.
+-- What a poll sends: document 01, "The line", up to the send; document 02, W-208, for the turns.
 -- Assumes nothing.
 use Prim.Native.Nat.{ℕ, _+_}
 use mathlib.Core.Bool.{false}
@@ -23,9 +23,23 @@ unfoldable pub waitingOf : Setting → Next
 waitingOf None = Nothing
 waitingOf (Value rate) = Start Rate rate
 
--- which command an idle poll starts: LED if its value differs from the last handled, else the rate that waits
-unfoldable pub nextOf : Line → ℕ → Next
-nextOf line led = if isValueOf (line .handled) led then waitingOf (line .rate) else Start Led led
+-- so is a LED value that differs from the last handled
+unfoldable pub unhandledOf : Setting → ℕ → Next
+unhandledOf handled led = if isValueOf handled led then Nothing else Start Led led
+
+-- the first of two commands, or the only one
+unfoldable pub firstOf : Next → Next → Next
+firstOf Nothing second = second
+firstOf (Start kind value) second = Start kind value
+
+-- a turn decides where both are there
+unfoldable pub inTurnOf : Kind → Next → Next → Next
+inTurnOf Led led rate = firstOf led rate
+inTurnOf Rate led rate = firstOf rate led
+
+-- which command a poll starts on a line that is idle in the turn of a kind
+unfoldable pub nextOf : Line → Kind → ℕ → Next
+nextOf line turn led = inTurnOf turn (unhandledOf (line .handled) led) (waitingOf (line .rate))
 
 -- a count of sends, which never passes its limit
 unfoldable pub oneMoreOf : ℕ → ℕ → ℕ
@@ -75,7 +89,7 @@ unfoldable pub startOf : Line → Kind → ℕ → Outcome
 startOf line kind value =
     sendOf
     (record {
-      phase = Idle;
+      phase = line .phase;
       handled = line .handled;
       rate = rateLeftOf (line .rate) kind;
       marks =
@@ -92,12 +106,12 @@ unfoldable pub startNextOf : Line → Next → Outcome
 startNextOf line Nothing = unchangedOf line Quiet
 startNextOf line (Start kind value) = startOf line kind value
 
-unfoldable pub idlePollOf : Line → ℕ → Outcome
-idlePollOf line led = startNextOf line (nextOf line led)
+unfoldable pub idlePollOf : Line → Kind → ℕ → Outcome
+idlePollOf line turn led = startNextOf line (nextOf line turn led)
 
 -- P, with the LED value that stands now: a poll sends nothing while a reply is awaited
 unfoldable pub pollIn : Line → ℕ → Phase → Outcome
-pollIn line led Idle = idlePollOf line led
+pollIn line led (Idle turn) = idlePollOf line turn led
 pollIn line led (Awaiting command) = unchangedOf line Quiet
 pollIn line led (Ready command) = sendOf line command
 

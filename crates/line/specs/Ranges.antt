@@ -34,7 +34,7 @@ pub record CommandInRange (command : Command) : Type 0 where
   pub sent : command .sent ≤ 6
 
 abbrev pub PhaseInRange : Phase → Type 0
-PhaseInRange Idle = Unit {0}
+PhaseInRange (Idle turn) = Unit {0}
 PhaseInRange (Awaiting command) = CommandInRange command
 PhaseInRange (Ready command) = CommandInRange command
 

@@ -3,7 +3,7 @@
 use mathlib.Core.Bool.{true}
 use lib.Dec.{ltb}
 use Rattle.bits.specs.Choice.{if_then_else_}
-use Rattle.line.specs.State.{isLedOf, inPhaseOf, withMarksOf, unchangedOf}
+use Rattle.line.specs.State.{isLedOf, otherOf, inPhaseOf, withMarksOf, unchangedOf}
 use Rattle.line.specs.declared.Command.{Command}
 use Rattle.line.specs.declared.Phase.{Phase}
 use Rattle.line.specs.declared.Phase.the-variants.{Idle, Awaiting, Ready}
@@ -58,11 +58,11 @@ markAbandonedOf line =
       abandoned = true;
     })
 
--- the line without its command: done or given up, a LED value is handled
+-- the line without its command: done or given up, a LED value is handled and the turn passes
 unfoldable pub endedOf : Line → Command → Line
 endedOf line command =
     record {
-      phase = Idle;
+      phase = Idle (otherOf (command .kind));
       handled = if isLedOf (command .kind) then Value (command .value) else line .handled;
       rate = line .rate;
       marks = line .marks;
@@ -93,7 +93,7 @@ failedOf line command =
 
 -- FA, FE and T count only while a reply is awaited
 unfoldable pub replyIn : Line → (Command → Outcome) → Phase → Outcome
-replyIn line taken Idle = unchangedOf line Ignored
+replyIn line taken (Idle turn) = unchangedOf line Ignored
 replyIn line taken (Awaiting command) = taken command
 replyIn line taken (Ready command) = unchangedOf line Ignored
 

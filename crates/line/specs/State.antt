@@ -14,11 +14,11 @@ use Rattle.line.specs.declared.Line.{Line}
 use Rattle.line.specs.declared.Answer.{Answer}
 use Rattle.line.specs.declared.Outcome.{Outcome}
 
--- a new line, and the line after R: idle, nothing handled, no rate waiting, byte 97 zero
+-- a new line, and the line after R: idle, nothing handled, no rate waiting, byte 97 zero, the LED value's turn
 unfoldable pub newLine : Line
 newLine =
     record {
-      phase = Idle;
+      phase = Idle Led;
       handled = None;
       rate = None;
       marks = record { done = 0; acknowledged = false; resend = false; abandoned = false };
@@ -30,7 +30,7 @@ waitRateOf line rate = record { phase = line .phase; handled = line .handled; ra
 
 -- the bytes sent by the command that runs, 0 without one
 unfoldable pub sentIn : Phase → ℕ
-sentIn Idle = 0
+sentIn (Idle turn) = 0
 sentIn (Awaiting command) = command .sent
 sentIn (Ready command) = command .sent
 
@@ -43,12 +43,17 @@ isLedOf Rate = false
 
 -- a LED command runs
 unfoldable pub ledRunsIn : Phase → Bool
-ledRunsIn Idle = false
+ledRunsIn (Idle turn) = false
 ledRunsIn (Awaiting command) = isLedOf (command .kind)
 ledRunsIn (Ready command) = isLedOf (command .kind)
 
 unfoldable pub ledRunsOf : Line → Bool
 ledRunsOf line = ledRunsIn (line .phase)
+
+-- a command passes the turn to the other kind, however it ends
+unfoldable pub otherOf : Kind → Kind
+otherOf Led = Rate
+otherOf Rate = Led
 
 -- the setting is this value
 unfoldable pub isValueOf : Setting → ℕ → Bool

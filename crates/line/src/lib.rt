@@ -23,9 +23,9 @@ pub struct Command {
     pub sends: u8,
 }
 
-// A command awaits the reply to a send, or is ready for the poll that sends.
+// An idle line knows whose turn it is. A command awaits the reply to a send, or is ready for the poll that sends.
 pub enum Phase {
-    Idle,
+    Idle(Kind),
     Awaiting(Command),
     Ready(Command),
 }
@@ -38,9 +38,9 @@ pub enum Setting {
 
 // What byte 97 shows of the past.
 pub struct Marks {
-    pub done: u8,
     pub resend: bool,
     pub abandoned: bool,
+    pub done: u8,
     pub acknowledged: bool,
 }
 
@@ -69,9 +69,9 @@ pub enum Answer {
 
 pub struct Outcome {
     pub line: Line,
-    pub answer: Answer,
     // bytes sent by the command that runs, or that ends here
     pub sent: u8,
+    pub answer: Answer,
 }
 
 // A line as made, and as a restart leaves it.
@@ -79,7 +79,7 @@ pub fn new() -> Line
     ensures { λ r. ⌜ r ≡ newLine ⌝ }
 {
     Line {
-        phase: Phase::Idle,
+        phase: Phase::Idle(Kind::Led),
         handled: Setting::None,
         rate: Setting::None,
         marks: Marks {
@@ -112,7 +112,7 @@ pub fn sent(line: Line) -> u8
 {
     let phase = line.phase;
     match phase {
-        Phase::Idle => 0,
+        Phase::Idle(_) => 0,
         Phase::Awaiting(command) => command.sent,
         Phase::Ready(command) => command.sent,
     }
@@ -143,7 +143,7 @@ fn led_runs(line: Line) -> bool
 {
     let phase = line.phase;
     match phase {
-        Phase::Idle => false,
+        Phase::Idle(_) => false,
         Phase::Awaiting(command) => is_led(command),
         Phase::Ready(command) => is_led(command),
     }

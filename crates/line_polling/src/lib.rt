@@ -1,7 +1,7 @@
 // A poll of the line: which command starts, the byte under way and its counts.
 ghost use mathlib.Core.Path.{_≡_};
 ghost use Rattle.line.specs.State.{isValueOf};
-ghost use Rattle.line.specs.Poll.{waitingOf, nextOf, oneMoreOf, firstByteOf, dueOf, countedOf, sendOf, rateLeftOf, startOf, idlePollOf, pollOf};
+ghost use Rattle.line.specs.Poll.{waitingOf, unhandledOf, firstOf, nextOf, oneMoreOf, firstByteOf, dueOf, countedOf, sendOf, rateLeftOf, startOf, idlePollOf, pollOf};
 use line::Answer;
 use line::Command;
 use line::Kind;
@@ -30,16 +30,38 @@ fn waiting(rate: Setting) -> Next
     }
 }
 
-// The turn of the commands: a LED value that was not handled goes before a waiting rate.
-fn next_command(line: Line, led: u8) -> Next
-    ensures { λ r. ⌜ r ≡ nextOf line led ⌝ }
+// The command of a LED value that was not handled.
+fn unhandled(handled: Setting, led: u8) -> Next
+    ensures { λ r. ⌜ r ≡ unhandledOf handled led ⌝ }
 {
-    let handled = line.handled;
-    let rate = line.rate;
     if is_value(handled, led) {
-        return waiting(rate);
+        return Next::Nothing;
     }
     Next::Start(Kind::Led, led)
+}
+
+// The first of two commands, or the only one.
+fn first(ahead: Next, behind: Next) -> Next
+    ensures { λ r. ⌜ r ≡ firstOf ahead behind ⌝ }
+{
+    match ahead {
+        Next::Nothing => behind,
+        Next::Start(kind, value) => Next::Start(kind, value),
+    }
+}
+
+// Which command starts: where both are there, the one whose turn it is.
+fn next_command(line: Line, turn: Kind, led: u8) -> Next
+    ensures { λ r. ⌜ r ≡ nextOf line turn led ⌝ }
+{
+    let handled = line.handled;
+    let setting = line.rate;
+    let lamps = unhandled(handled, led);
+    let rate = waiting(setting);
+    match turn {
+        Kind::Led => first(lamps, rate),
+        Kind::Rate => first(rate, lamps),
+    }
 }
 
 // A count that stops at its limit.
@@ -123,8 +145,9 @@ fn start(line: Line, kind: Kind, value: u8) -> Outcome
     let left = rate_left(rate, kind);
     let mut marks = line.marks;
     marks.abandoned = false;
+    let phase = line.phase;
     let fresh = Line {
-        phase: Phase::Idle,
+        phase,
         handled,
         rate: left,
         marks,
@@ -140,10 +163,10 @@ fn start(line: Line, kind: Kind, value: u8) -> Outcome
 }
 
 // A poll of an idle line.
-fn idle_poll(line: Line, led: u8) -> Outcome
-    ensures { λ r. ⌜ r ≡ idlePollOf line led ⌝ }
+fn idle_poll(line: Line, turn: Kind, led: u8) -> Outcome
+    ensures { λ r. ⌜ r ≡ idlePollOf line turn led ⌝ }
 {
-    let next = next_command(line, led);
+    let next = next_command(line, turn, led);
     match next {
         Next::Nothing => line::unchanged(line, Answer::Quiet),
         Next::Start(kind, value) => start(line, kind, value),
@@ -156,7 +179,7 @@ pub fn poll(line: Line, led: u8) -> Outcome
 {
     let phase = line.phase;
     match phase {
-        Phase::Idle => idle_poll(line, led),
+        Phase::Idle(turn) => idle_poll(line, turn, led),
         Phase::Awaiting(_) => line::unchanged(line, Answer::Quiet),
         Phase::Ready(command) => send(line, command),
     }

@@ -4,6 +4,7 @@ ghost use Rattle.line.specs.State.{inPhaseOf, withMarksOf};
 ghost use Rattle.line.specs.Reply.{markAcknowledgedOf, markResendOf, markDoneOf, markAbandonedOf, endedOf, operandOf, acknowledgedOf, failedOf, acknowledgeOf, resendOf, timeOutOf};
 use line::Answer;
 use line::Command;
+use line::Kind;
 use line::Line;
 use line::Marks;
 use line::Outcome;
@@ -77,7 +78,7 @@ fn mark_abandoned(line: Line) -> Line
     with_marks(line, marks)
 }
 
-// The command ended, done or given up: its LED value is handled.
+// The command ended, done or given up: its LED value is handled, and the turn is the other kind's.
 fn ended(line: Line, command: Command) -> Line
     ensures { λ r. ⌜ r ≡ endedOf line command ⌝ }
 {
@@ -86,14 +87,14 @@ fn ended(line: Line, command: Command) -> Line
     let marks = line.marks;
     if line::is_led(command) {
         return Line {
-            phase: Phase::Idle,
+            phase: Phase::Idle(Kind::Rate),
             handled: Setting::Value(command.value),
             rate,
             marks,
         };
     }
     Line {
-        phase: Phase::Idle,
+        phase: Phase::Idle(Kind::Led),
         handled,
         rate,
         marks,
@@ -152,7 +153,7 @@ pub fn acknowledge(line: Line) -> Outcome
 {
     let phase = line.phase;
     match phase {
-        Phase::Idle => line::unchanged(line, Answer::Ignored),
+        Phase::Idle(_) => line::unchanged(line, Answer::Ignored),
         Phase::Awaiting(command) => { acknowledged(mark_acknowledged(line), command) }
         Phase::Ready(_) => line::unchanged(line, Answer::Ignored),
     }
@@ -164,7 +165,7 @@ pub fn resend(line: Line) -> Outcome
 {
     let phase = line.phase;
     match phase {
-        Phase::Idle => line::unchanged(line, Answer::Ignored),
+        Phase::Idle(_) => line::unchanged(line, Answer::Ignored),
         Phase::Awaiting(command) => failed(mark_resend(line), command),
         Phase::Ready(_) => line::unchanged(line, Answer::Ignored),
     }
@@ -176,7 +177,7 @@ pub fn time_out(line: Line) -> Outcome
 {
     let phase = line.phase;
     match phase {
-        Phase::Idle => line::unchanged(line, Answer::Ignored),
+        Phase::Idle(_) => line::unchanged(line, Answer::Ignored),
         Phase::Awaiting(command) => failed(line, command),
         Phase::Ready(_) => line::unchanged(line, Answer::Ignored),
     }

@@ -79,14 +79,14 @@ module _ (P : Service → Type 0)
     (by-event : (service : Service) (e : Event) → P service → P (next service e))
     (by-change : (service : Service) (set : CodeSet) → P service → P (changeOf service set .service))
     (by-port-event : (service : Service) (e : PortEvent) → P service → P (portStepOf service e .outcome .service)) where
-  step-kept : (service : Service) (item : Item) → P service → P (nextItem service item)
+  pub step-kept : (service : Service) (item : Item) → P service → P (nextItem service item)
   unfolding stepItem
   step-kept service item h =
       by-item (λ (stepped : Stepped). P (stepped .service)) service
       (λ e. by-event service e h) (λ buffer. h) (λ e buffer. by-event service e h) (λ number _. h) (λ set. by-change service set h)
       (λ e _. by-port-event service e h) item
 
-  kept : (service : Service) (items : List Item) → P service → P (afterItems service items)
+  pub kept : (service : Service) (items : List Item) → P service → P (afterItems service items)
   kept service [] h = h
   kept service (item ∷ more) h = kept (nextItem service item) more (step-kept service item h)
 

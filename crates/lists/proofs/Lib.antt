@@ -5,3 +5,6 @@ pub mod Controller
 pub mod Demand3
 pub mod Ports
 pub mod SetTwoCases
+pub mod TurnsItem
+pub mod Turns
+pub mod TurnsReached

@@ -6,3 +6,4 @@ pub mod Controller
 pub mod Demand3
 pub mod Ports
 pub mod SetTwoCases
+pub mod Turns

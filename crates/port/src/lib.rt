@@ -38,8 +38,8 @@ pub struct Held {
 pub struct Port {
     pub prefix: Prefix,
     pub modifiers: Modifiers,
-    pub held: Held,
     pub sum: u8,
+    pub held: Held,
 }
 
 pub struct Locks {

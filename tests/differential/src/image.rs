@@ -23,6 +23,7 @@ pub mod place {
     pub const HANDLED_KNOWN: usize = 8;
     pub const HANDLED: usize = 9;
     pub const PHASE: usize = 10;
+    /// Of the command that runs; on an idle line, of the one whose turn it is.
     pub const KIND: usize = 11;
     pub const VALUE: usize = 12;
     pub const OPERAND: usize = 13;
@@ -125,6 +126,12 @@ pub mod buffer {
     pub const EMPTY: u8 = 0;
     pub const KEY: u8 = 1;
     pub const ANSWER: u8 = 2;
+}
+
+/// The kind of a command, as a number; any other is read as rate.
+pub mod kind {
+    pub const LED: u8 = 0;
+    pub const RATE: u8 = 1;
 }
 
 /// The bits of the command byte that do something.
@@ -397,6 +404,23 @@ impl Image {
     /// Puts another controller, and leaves all else.
     pub fn put_controller(&mut self, numbers: [u8; CONTROLLER_LENGTH]) {
         self.bytes[place::BUFFER..].copy_from_slice(&numbers);
+    }
+
+    /// Whether no command runs: one does in phases 1 and 2, and in no other.
+    pub fn is_idle(&self) -> bool {
+        !matches!(self.bytes[place::PHASE], 1 | 2)
+    }
+
+    /// The kind that goes first where both are due, as its number stands on an idle line, in range or not.
+    /// While a command runs, no turn is kept.
+    pub fn turn(&self) -> Option<u8> {
+        self.is_idle().then_some(self.bytes[place::KIND])
+    }
+
+    /// Puts another number of the turn on an idle line, and leaves all else.
+    pub fn put_turn(&mut self, number: u8) {
+        assert!(self.is_idle(), "a turn is kept on an idle line alone");
+        self.bytes[place::KIND] = number;
     }
 }
 

@@ -9,7 +9,7 @@ mod image;
 mod pair;
 
 pub use image::{
-    buffer, codes, command, flag, frame_of, held, place, prefix, prefix_and_codes, read, Image,
-    Ports, Reading, Reported, Tagged, CONTROLLER_LENGTH, IMAGE_LENGTH, SCANNER_LENGTH,
+    buffer, codes, command, flag, frame_of, held, kind, place, prefix, prefix_and_codes, read,
+    Image, Ports, Reading, Reported, Tagged, CONTROLLER_LENGTH, IMAGE_LENGTH, SCANNER_LENGTH,
 };
 pub use pair::{controller_due, ports_due, report_due, with_prefix_and_codes, Pair, PREFIXES};

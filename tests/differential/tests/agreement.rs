@@ -19,7 +19,7 @@ use std::{fmt, thread};
 
 /// Random lists of each flavour from each setting of the locks, on either set in turn: how many, and
 /// their lengths.
-const LISTS: [(usize, usize, usize); 3] = [(320, 1, 60), (28, 100, 600), (1, 20_000, 20_000)];
+const LISTS: [(usize, usize, usize); 3] = [(256, 1, 60), (22, 100, 600), (1, 20_000, 20_000)];
 const LEAST_INPUTS: usize = 2_000_000;
 
 /// What is compared at one input.

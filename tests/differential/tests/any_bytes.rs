@@ -117,7 +117,8 @@ fn unread(bytes: &[u8; IMAGE_LENGTH]) -> [u8; IMAGE_LENGTH] {
     bits[HANDLED] = [0xF8, 0xFF][usize::from(bytes[HANDLED_KNOWN] == 0)];
     match bytes[PHASE] {
         1 | 2 => bits[VALUE] = [0x80, 0xF8][usize::from(bytes[KIND] == 0)],
-        _ => bits[KIND..=SENT].fill(0xFF),
+        // The kind is that of the turn.
+        _ => bits[VALUE..=SENT].fill(0xFF),
     }
     bits[SCANNER_SHIFT..=SCANNER_ALT].fill(!(held::RIGHT | held::LEFT));
     bits[SCANNER_LOCKS] = !(held::SCROLL | held::NUM | held::CAPS);

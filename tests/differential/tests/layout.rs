@@ -1,17 +1,19 @@
 //! Every number of a service stands where the header says, and every flag in its bit: events that
 //! change few of them change the bytes at their places and no others. A flag is read from the bit
 //! that it is written to, and the other bits of the flag bytes are not read. The same holds for the
-//! numbers of the scanner's port, of which the flag bytes show nothing. Those of the controller have a
-//! file of their own.
+//! numbers of the scanner's port and for the turn, of which the flag bytes show nothing. Those of the
+//! controller have a file of their own.
 
 use differential::codes::{SET_1, SET_2, SET_2_MARKED};
 use differential::flag::*;
 use differential::held::{CAPS, LEFT, NUM, RIGHT, SCROLL};
 use differential::place::*;
 use differential::prefix::{E0, E1, E1_1D, E1_9D, NONE};
-use differential::{prefix_and_codes, Image, IMAGE_LENGTH, SCANNER_LENGTH};
-use reference::Event::{self, Call, Empty, Key, Poll, Restart, Scan};
-use reference::{CodeSet, CODE_SETS};
+use differential::{kind, prefix_and_codes, Image, IMAGE_LENGTH, SCANNER_LENGTH};
+use reference::written::inputs;
+use reference::Event::{self, Call, Empty, Key, Poll, Restart, Scan, TimeOut};
+use reference::PortEvent::Write64;
+use reference::{CodeSet, Input, CODE_SETS};
 
 /// The bits of the flag bytes that have a meaning, and those of the scanner's numbers. A sum may have any.
 const MEANT: [u8; 4] = [0xFF, 0xFF, 0x0F, 0xF7];
@@ -136,17 +138,20 @@ fn changes_at_both() -> Vec<Change> {
     ]
 }
 
-/// Changes of the line and of the queue.
-fn changes_by_other_events() -> Vec<Change> {
-    let locked = |key: u8, rest: Vec<Event>| [keys(&[key, key + 0x80]), rest].concat();
+/// A lock key down and up, and what comes behind it.
+fn locked(key: u8, rest: Vec<Event>) -> Vec<Event> {
+    [keys(&[key, key + 0x80]), rest].concat()
+}
+
+/// The kind where it is that of a rate command that runs, or on an idle line where the rate goes first.
+const RATE_KIND: (usize, u8) = (KIND, kind::RATE);
+
+/// Changes of the line by a LED command that runs. Its kind is 0.
+fn changes_by_running_led_commands() -> Vec<Change> {
     let capital = |rest: Vec<Event>| locked(0x3A, rest);
     let running =
         |rest: &[(usize, u8)]| [&[CAPS_LOCK, LED_COMMAND_RUNS, (VALUE, 4)], rest].concat();
-    let handled =
-        |value: u8, rest: &[(usize, u8)]| [&[(HANDLED_KNOWN, 1), (HANDLED, value)], rest].concat();
-    let rate = |rest: Vec<Event>| [polled(&[0xFA, 0xFA]), vec![Call(0x03, 2, 5)], rest].concat();
     vec![
-        (vec![Call(0x03, 2, 5)], vec![(RATE_KNOWN, 1), (RATE, 69)]),
         (
             capital(vec![Poll]),
             running(&[(PHASE, 1), (SENDS, 1), (SENT, 1)]),
@@ -163,6 +168,14 @@ fn changes_by_other_events() -> Vec<Change> {
             capital([polled(&[0xFE, 0xFA]), vec![Poll]].concat()),
             running(&[(PHASE, 1), (OPERAND, 1), (SENDS, 1), (SENT, 3)]),
         ),
+    ]
+}
+
+/// Changes of the line by a LED command that is over. However it ended, it leaves the turn of the rate, and a
+/// poll that starts nothing leaves that too.
+fn changes_by_ended_led_commands() -> Vec<Change> {
+    let handled = |value: u8, rest: &[(usize, u8)]| [&led_handled(value), rest].concat();
+    vec![
         (
             locked(0x46, polled(&[0xFA, 0xFA])),
             handled(1, &[SCROLL_LOCK, SCROLL_DONE, ACKNOWLEDGED]),
@@ -172,21 +185,71 @@ fn changes_by_other_events() -> Vec<Change> {
             handled(2, &[NUM_LOCK, NUM_DONE, ACKNOWLEDGED]),
         ),
         (
-            capital(polled(&[0xFA, 0xFA])),
+            locked(0x3A, polled(&[0xFA, 0xFA])),
             handled(4, &[CAPS_LOCK, CAPS_DONE, ACKNOWLEDGED]),
         ),
         (
-            capital(polled(&[0xFE, 0xFE, 0xFE])),
+            locked(0x3A, polled(&[0xFE, 0xFE, 0xFE])),
             handled(4, &[CAPS_LOCK, GIVEN_UP, RESEND]),
         ),
         (
-            rate(vec![Poll]),
-            handled(
-                0,
-                &[(PHASE, 1), (KIND, 1), (VALUE, 69), (SENDS, 1), (SENT, 1)],
-            ),
+            locked(0x3A, [Poll, TimeOut].repeat(3)),
+            handled(4, &[CAPS_LOCK, GIVEN_UP]),
         ),
-        (rate(vec![Restart]), vec![]),
+        (
+            locked(0x3A, [polled(&[0xFA, 0xFA]), vec![Poll]].concat()),
+            handled(4, &[CAPS_LOCK, CAPS_DONE, ACKNOWLEDGED]),
+        ),
+    ]
+}
+
+/// What a LED command that is over leaves beside flags.
+fn led_handled(value: u8) -> [(usize, u8); 3] {
+    [(HANDLED_KNOWN, 1), (HANDLED, value), RATE_KIND]
+}
+
+/// Changes of the line by rates. One that waits leaves the turn; a command that is over, however it ended,
+/// leaves that of the LED value.
+fn changes_by_rates() -> Vec<Change> {
+    let call = Call(0x03, 2, 5);
+    let waiting = [(RATE_KNOWN, 1), (RATE, 69)];
+    let led_done = polled(&[0xFA, 0xFA]);
+    let behind_led = |rest: Vec<Event>| [led_done.clone(), vec![call], rest].concat();
+    let running = [(HANDLED_KNOWN, 1), RATE_KIND, (VALUE, 69), (SENT, 1)];
+    vec![
+        (vec![call], waiting.to_vec()),
+        (
+            behind_led(vec![]),
+            [&led_handled(0)[..], &waiting, &[ACKNOWLEDGED]].concat(),
+        ),
+        (
+            behind_led(vec![Poll]),
+            [&running[..], &[(PHASE, 1), (SENDS, 1)]].concat(),
+        ),
+        (
+            behind_led(polled(&[0xFA])),
+            [&running[..], &[(PHASE, 2), (OPERAND, 1), ACKNOWLEDGED]].concat(),
+        ),
+        (
+            behind_led(led_done.clone()),
+            vec![(HANDLED_KNOWN, 1), ACKNOWLEDGED],
+        ),
+        (
+            behind_led(polled(&[0xFE, 0xFE, 0xFE])),
+            vec![(HANDLED_KNOWN, 1), GIVEN_UP, RESEND],
+        ),
+        (
+            behind_led([led_done.clone(), locked(0x3A, led_done.clone())].concat()),
+            [&led_handled(4)[..], &[CAPS_LOCK, CAPS_DONE, ACKNOWLEDGED]].concat(),
+        ),
+        (behind_led(vec![Restart]), vec![]),
+        (vec![Poll, Restart], vec![]),
+    ]
+}
+
+/// Changes of the queue.
+fn changes_by_words() -> Vec<Change> {
+    vec![
         (
             vec![Call(0x05, 0x1E, 0x61), Call(0x05, 0x30, 0x62)],
             vec![
@@ -227,7 +290,10 @@ fn each_number_stands_at_its_place() {
         changes_by_scans(),
         changes_by_scanned_locks(),
         changes_at_both(),
-        changes_by_other_events(),
+        changes_by_running_led_commands(),
+        changes_by_ended_led_commands(),
+        changes_by_rates(),
+        changes_by_words(),
     ];
     for (events, expected) in changes.concat() {
         let mut image = Image::new(0).unwrap();
@@ -345,6 +411,85 @@ fn each_number_of_the_scanner_is_read_from_its_place() {
             assert_eq!(standing(&image.bytes), standing(&expected));
         }
     }
+}
+
+/// Inputs that are not refused where a command byte is awaited, so that each writes the service anew.
+const WRITING: &str =
+    "C02 C030205 C051E61 K1E S1E T E P R frame=63C set=1 set=2 key=1E r60 r64 w60=00 w64=20";
+
+/// Both a LED value and a rate are due on an idle line, and a command byte is awaited.
+fn ready() -> Image {
+    let mut image = Image::new(0).unwrap();
+    image.call(0x03, 1, 2);
+    image.port(Write64(0x60));
+    image
+}
+
+/// The same with this turn, by the number that the library writes.
+fn ready_with(turn: u8) -> Image {
+    let mut image = ready();
+    image.put_turn(turn);
+    image
+}
+
+/// The input shows and leaves the same as with the plain numbers, by its report too. No flag byte shows
+/// more of the one than of the other.
+fn check_alike(image: &Image, plain: &Image, input: &Input) {
+    let (mut done, mut expected, mut reported) = (image.clone(), plain.clone(), image.clone());
+    assert_eq!(image.flag_bytes(), plain.flag_bytes());
+    let seen = expected.input(input);
+    assert!(!seen.is_refused());
+    assert_eq!(done.input(input), seen, "{:?}", standing(&image.bytes));
+    assert_eq!(done, expected, "{:?}", standing(&image.bytes));
+    reported.report_of(input);
+    assert_eq!(reported, expected, "{:?}", standing(&image.bytes));
+}
+
+/// In any phase of an idle line, any number is the turn of the rate, or of the LED value where it is 0. Each
+/// call writes it as 0 or 1, and but for R leaves it: a poll starts the command of that kind.
+#[test]
+fn the_turn_is_read_from_the_kind_of_an_idle_line() {
+    for input in inputs(WRITING) {
+        let plain = [kind::LED, kind::RATE].map(ready_with);
+        for (phase, number) in idle_turns() {
+            let turn = u8::from(number > 0);
+            let mut image = ready();
+            image.bytes[PHASE] = phase;
+            image.put_turn(number);
+            check_alike(&image, &plain[usize::from(turn)], &input);
+            image.input(&input);
+            let is_restart = input == Input::Event(Restart);
+            let left = [turn, kind::LED][usize::from(is_restart)];
+            assert_eq!(image.bytes[KIND], left, "{number} in phase {phase}");
+        }
+    }
+}
+
+/// Each phase of an idle line with each number of a turn.
+fn idle_turns() -> impl Iterator<Item = (u8, u8)> {
+    let phases = (0..=255).filter(|phase| !matches!(phase, 1 | 2));
+    phases.flat_map(|phase| (0..=255).map(move |number| (phase, number)))
+}
+
+/// The rest of the command on an idle line, and the spare bytes: none is read, whosever turn it is, and each
+/// call writes zeros.
+#[test]
+fn what_stands_behind_the_turn_is_not_read() {
+    for input in inputs(WRITING) {
+        for plain in [kind::LED, kind::RATE].map(ready_with) {
+            for (place, number) in unread_numbers() {
+                let mut image = plain.clone();
+                image.bytes[place] = number;
+                check_alike(&image, &plain, &input);
+            }
+        }
+    }
+}
+
+/// Each number at each place that is not read on an idle line.
+fn unread_numbers() -> impl Iterator<Item = (usize, u8)> {
+    let places = (VALUE..=SENT).chain(SPARE..IMAGE_LENGTH);
+    places.flat_map(|place| (0..=255).map(move |number| (place, number)))
 }
 
 /// The fifteenth place is followed by the first, and the sixteenth is never used.

@@ -3,7 +3,7 @@
 //! changes the image and the first 44 bytes of the buffer, and nothing before, between or behind.
 
 use differential::place::{AWAITING, BUFFER, COMMAND_BYTE, SPARE};
-use differential::{command, Image, Pair, Tagged, IMAGE_LENGTH, SCANNER_LENGTH};
+use differential::{command, kind, Image, Pair, Tagged, IMAGE_LENGTH, SCANNER_LENGTH};
 use reference::frame::{PARITY_BIT, STOP_BIT};
 use reference::generator::{random_events, random_inputs, random_lists, Random, FLAVOURS};
 use reference::PortEvent::{FromKeyboard, Write60, Write64};
@@ -35,6 +35,9 @@ fn services_in_use() -> Vec<Pair> {
             .any(|pair| pair.image.controller()[number] > 0)
     };
     assert!((0..SPARE - BUFFER).all(is_used), "so were controllers");
+    let is_left = |turn: Option<u8>| services.iter().any(|pair| pair.image.turn() == turn);
+    let turns = [Some(kind::LED), Some(kind::RATE), None];
+    assert!(turns.into_iter().all(is_left), "so were lines");
     services
 }
 

@@ -12,12 +12,12 @@
 //! further list.
 
 use differential::place::{AWAITING, BUFFER, COMMAND_BYTE};
-use differential::{buffer, codes, command, Image, CONTROLLER_LENGTH, SCANNER_LENGTH};
+use differential::{buffer, codes, command, kind, Image, CONTROLLER_LENGTH, SCANNER_LENGTH};
 use reference::generator::{all_up_inputs, in_turn, random_inputs, Random, DONE_AT_PORTS};
 use reference::written::inputs;
 use reference::{set_after, CodeSet, Event, Input, Seen, CODE_SETS, REPORT_LENGTH};
 
-const FIRST_LISTS: usize = 32_000;
+const FIRST_LISTS: usize = 24_000;
 const LONGEST_FIRST: usize = 150;
 const FURTHER_EVENTS: usize = 40;
 
@@ -64,6 +64,7 @@ struct Left {
     an_answer_in_the_buffer: usize,
     a_command_byte_awaited: usize,
     a_disabled_keyboard: usize,
+    the_turn_of_a_rate: usize,
     set_2: usize,
     another_set: usize,
     a_mark: usize,
@@ -80,6 +81,7 @@ impl Left {
         self.an_answer_in_the_buffer += usize::from(bytes[BUFFER] == buffer::ANSWER);
         self.a_command_byte_awaited += usize::from(bytes[AWAITING] == 1);
         self.a_disabled_keyboard += usize::from(is_disabled);
+        self.the_turn_of_a_rate += usize::from(used.turn() == Some(kind::RATE));
         self.set_2 += usize::from(used.set() == CodeSet::Two);
         self.another_set += usize::from(used.set() != made_on);
         self.a_mark += usize::from(used.codes() == codes::SET_2_MARKED);
@@ -93,6 +95,7 @@ impl Left {
         assert!(self.an_answer_in_the_buffer > FIRST_LISTS / 20);
         assert!(self.a_command_byte_awaited > FIRST_LISTS / 20);
         assert!(self.a_disabled_keyboard > FIRST_LISTS / 20);
+        assert!(self.the_turn_of_a_rate > FIRST_LISTS / 20);
         assert!(self.set_2 > FIRST_LISTS / 4);
         assert!(self.another_set > FIRST_LISTS / 8);
         assert!(self.a_mark > FIRST_LISTS / 40);

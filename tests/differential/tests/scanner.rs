@@ -12,7 +12,7 @@ use reference::written::events;
 use reference::Event::{self, Call, Empty, Key, Restart, Scan};
 use reference::{CodeSet, Device, Input, Seen, CODE_SETS, DEVICES};
 
-const LISTS: usize = 4_000;
+const LISTS: usize = 3_000;
 const LONGEST: usize = 200;
 const FURTHER: usize = 50;
 

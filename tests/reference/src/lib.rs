@@ -23,6 +23,7 @@ pub mod shared;
 pub mod stored;
 pub mod translation;
 pub mod vectors;
+pub mod waits;
 pub mod written;
 
 pub use controller::{Controller, OutputBuffer, PortEvent};

@@ -15,8 +15,15 @@ const GAVE_UP: u8 = 0x80;
 /// Sends that one byte of a command may take.
 const SENDS_PER_BYTE: u8 = 3;
 
+/// What goes first where a lamp value and a rate could both start.
+#[derive(Clone, Copy, Debug, PartialEq, Eq, Hash)]
+enum Turn {
+    Lamps,
+    Rate,
+}
+
 /// A running command.
-#[derive(Clone, Debug, PartialEq, Eq)]
+#[derive(Clone, Debug, PartialEq, Eq, Hash)]
 struct Command {
     first: u8,
     operand: u8,
@@ -57,9 +64,10 @@ impl Command {
     }
 }
 
-#[derive(Clone, Debug, PartialEq, Eq)]
+#[derive(Clone, Debug, PartialEq, Eq, Hash)]
 pub struct Line {
     command: Option<Command>,
+    turn: Turn,
     /// The operand of a rate that waits for an idle line.
     waiting_rate: Option<u8>,
     /// The lamp value last done or given up.
@@ -74,6 +82,7 @@ impl Line {
     pub const fn new() -> Line {
         Line {
             command: None,
+            turn: Turn::Lamps,
             waiting_rate: None,
             handled: None,
             done: 0,
@@ -112,12 +121,17 @@ impl Line {
         }
     }
 
-    /// Lamps come before a rate; the rate taken up waits no longer.
+    /// A lamp value that is due, or a waiting rate; where both are there, the one whose turn it is. The
+    /// start passes the turn, so it does not matter how the command ends. A rate taken up waits no longer.
     fn next_command(&mut self, lamps: u8) -> Option<Command> {
-        if self.handled != Some(lamps) {
+        let lamps_due = self.handled != Some(lamps);
+        let rate_goes_first = self.turn == Turn::Rate && self.waiting_rate.is_some();
+        if lamps_due && !rate_goes_first {
+            self.turn = Turn::Rate;
             return Some(Command::new(SET_LAMPS, lamps));
         }
         let operand = self.waiting_rate.take()?;
+        self.turn = Turn::Lamps;
         Some(Command::new(SET_RATE, operand))
     }
 

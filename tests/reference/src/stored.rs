@@ -5,7 +5,7 @@ use crate::pack::MAXIMUM_PACK;
 use crate::trace;
 use crate::vectors::{
     from_hex, BENCH_CASES, ENHANCED_WORDS, EXAMPLE_PACK, GREY_KEYS, READINGS, REFUSED_CALLS,
-    SCANNER,
+    SCANNER, TURNS,
 };
 use std::collections::BTreeMap;
 
@@ -44,7 +44,7 @@ fn stored() -> Vec<Stored> {
     let mut stored = vec![Stored::new("example", from_hex(EXAMPLE_PACK))];
     let vectors = READINGS.iter().chain(&BENCH_CASES);
     let vectors = vectors.chain(&REFUSED_CALLS).chain(&ENHANCED_WORDS);
-    let vectors = vectors.chain(&GREY_KEYS).chain(&SCANNER);
+    let vectors = vectors.chain(&GREY_KEYS).chain(&SCANNER).chain(&TURNS);
     stored.extend(vectors.map(|vector| Stored::new(vector.name, vector.bytes())));
     stored.push(Stored::new("over-length", vec![b'P'; MAXIMUM_PACK + 1]));
     let named = |pack: Pack| Stored::new(pack.kind, pack.bytes);

@@ -1,8 +1,10 @@
 //! Vectors whose outcomes are written down, to hold the reference to.
 
 mod scanner;
+mod turns;
 
 pub use scanner::SCANNER;
+pub use turns::TURNS;
 
 use crate::service::Outcome;
 

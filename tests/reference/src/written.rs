@@ -1,12 +1,13 @@
 //! Lists written as words: `K1E` is a byte of the keyboard and `S1E` one of the scanner, `C12` a function
-//! with the bytes 00 and 00, `P`, `T`, `E` and `R` are themselves, `frame=624` is a frame by its number,
-//! and `set=2` a change of set. At the controller, `key=1E` is a byte of the keyboard, `r60` and `r64` are
-//! reads, and `w60=01` and `w64=AA` writes.
+//! with the bytes 00 and 00, `C030102` one with other bytes, `P`, `T`, `E` and `R` are themselves,
+//! `frame=624` is a frame by its number, and `set=2` a change of set. At the controller, `key=1E` is a byte
+//! of the keyboard, `r60` and `r64` are reads, and `w60=01` and `w64=AA` writes.
 
 use crate::controller::PortEvent;
 use crate::input::Input;
 use crate::pack::Event;
 use crate::translation::CodeSet;
+use crate::vectors::from_hex;
 
 pub fn inputs(text: &str) -> Vec<Input> {
     text.split_whitespace().map(input).collect()
@@ -46,11 +47,19 @@ fn event(word: &str) -> Event {
     match tag {
         "K" => Event::Key(byte()),
         "S" => Event::Scan(byte()),
-        "C" => Event::Call(byte(), 0x00, 0x00),
+        "C" => call(word, &from_hex(digits)),
         "P" => Event::Poll,
         "T" => Event::TimeOut,
         "E" => Event::Empty,
         "R" => Event::Restart,
+        _ => panic!("no event is written {word}"),
+    }
+}
+
+fn call(word: &str, bytes: &[u8]) -> Event {
+    match *bytes {
+        [function] => Event::Call(function, 0x00, 0x00),
+        [function, a, b] => Event::Call(function, a, b),
         _ => panic!("no event is written {word}"),
     }
 }
@@ -69,12 +78,13 @@ mod tests {
             Event::Key(0x1E),
             Event::Scan(0xFA),
             Event::Call(0x12, 0, 0),
+            Event::Call(0x03, 1, 2),
             Event::Poll,
             Event::TimeOut,
             Event::Empty,
             Event::Restart,
         ];
-        assert_eq!(events("K1E SFA C12 P T E R"), expected);
+        assert_eq!(events("K1E SFA C12 C030102 P T E R"), expected);
         let expected = [
             Input::Change(CodeSet::One),
             Input::Change(CodeSet::Two),

@@ -2,7 +2,7 @@
 
 use reference::vectors::{
     from_hex, Vector, BENCH_CASES, ENHANCED_WORDS, EXAMPLE_PACK, EXAMPLE_TEXT, GREY_KEYS, READINGS,
-    REFUSED_CALLS, SCANNER,
+    REFUSED_CALLS, SCANNER, TURNS,
 };
 use reference::{read_event, trace, Event, Outcome, Service};
 
@@ -60,6 +60,11 @@ fn grey_keys_hold() {
 #[test]
 fn scanner_vectors_hold() {
     check_last(&SCANNER);
+}
+
+#[test]
+fn turns_hold() {
+    check_last(&TURNS);
 }
 
 #[test]

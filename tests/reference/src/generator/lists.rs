@@ -6,13 +6,17 @@ use super::frames::with_frames;
 use super::mixes::{in_turn, random_events, Flavour};
 use super::random::Random;
 use super::sets::{all_up_events, with_sets};
+use super::turns::with_commands;
 use crate::input::Input;
 use crate::pack::{Event, DEVICES};
 use crate::translation::CodeSet;
 
+/// In shorter lists, commands would outnumber all else.
+const ROOM_FOR_COMMANDS: usize = 40;
+
 /// So many lists for services newly made, each with the set and the locks of its service: every flavour in
-/// turn, then the other set, then the next setting of the locks. None is longer than this before port events
-/// and refused frames come among its inputs.
+/// turn, then the other set, then the next setting of the locks. None is longer than this before commands,
+/// port events and refused frames come among its inputs.
 pub fn random_lists(
     seed: u64,
     lists: usize,
@@ -28,8 +32,8 @@ pub fn random_lists(
 }
 
 /// A list for a service on this set: so many events and changes of set, with port events and refused frames
-/// among them. Most hold bytes of the scanner, and most port events. It may end anywhere, also behind a
-/// prefix or a mark, or with a key in the buffer.
+/// among them, and with commands of the line if it is long. Most hold bytes of the scanner, and most port
+/// events. It may end anywhere, also behind a prefix or a mark, or with a key in the buffer.
 pub fn random_inputs(
     random: &mut Random,
     flavour: Flavour,
@@ -42,6 +46,9 @@ pub fn random_inputs(
     }
     let mut inputs = with_sets(random, set, &events);
     inputs.truncate(length);
+    if inputs.len() >= ROOM_FOR_COMMANDS && random.below(6) > 0 {
+        inputs = with_commands(random, set, &inputs);
+    }
     if random.below(4) > 0 {
         inputs = with_ports(random, &inputs);
     }

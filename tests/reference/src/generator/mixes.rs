@@ -2,7 +2,7 @@
 
 use super::random::Random;
 use super::writer::{Writer, ENHANCED_KEYS, LOCK_KEYS, MODIFIERS, PAUSE};
-use super::{devices, grey, Pack};
+use super::{devices, grey, turns, Pack};
 use crate::pack::{Event, MAXIMUM_PACK};
 use crate::translation::{CodeSet, CODE_SETS};
 
@@ -16,9 +16,10 @@ pub enum Flavour {
     Enhanced,
     Grey,
     Scanner,
+    Turns,
 }
 
-pub const FLAVOURS: [Flavour; 7] = [
+pub const FLAVOURS: [Flavour; 8] = [
     Flavour::Keys,
     Flavour::Line,
     Flavour::Queue,
@@ -26,6 +27,7 @@ pub const FLAVOURS: [Flavour; 7] = [
     Flavour::Enhanced,
     Flavour::Grey,
     Flavour::Scanner,
+    Flavour::Turns,
 ];
 
 /// The flavour of a numbered list, and the code set and the locks it starts from: each flavour in turn,
@@ -46,6 +48,7 @@ impl Flavour {
             Flavour::Enhanced => "mix-enhanced",
             Flavour::Grey => "mix-grey",
             Flavour::Scanner => "mix-scanner",
+            Flavour::Turns => "mix-turns",
         }
     }
 
@@ -59,6 +62,7 @@ impl Flavour {
             Flavour::Enhanced => [50, 46, 2, 2, 1, 1],
             Flavour::Grey => [30, 70, 2, 2, 1, 1],
             Flavour::Scanner => [60, 14, 10, 20, 2, 1],
+            Flavour::Turns => [10, 12, 38, 38, 1, 1],
         }
     }
 
@@ -72,6 +76,7 @@ impl Flavour {
             Flavour::Enhanced => [20, 15, 2, 5, 5, 2, 1, 2, 60, 0],
             Flavour::Grey => [8, 2, 6, 10, 6, 1, 1, 2, 4, 60],
             Flavour::Scanner => [20, 20, 12, 12, 12, 12, 4, 6, 2, 4],
+            Flavour::Turns => [10, 5, 50, 3, 3, 3, 1, 3, 1, 1],
         }
     }
 
@@ -79,6 +84,7 @@ impl Flavour {
     fn typed(self, random: &mut Random) -> Vec<Event> {
         match self {
             Flavour::Scanner => devices::typed(random),
+            Flavour::Turns => turns::typed(random),
             _ => key_bytes(random, self)
                 .into_iter()
                 .map(Event::Key)
@@ -86,10 +92,16 @@ impl Flavour {
         }
     }
 
+    /// Whether the mix has bytes of a scanner by itself.
+    pub fn has_scanner(self) -> bool {
+        matches!(self, Flavour::Scanner | Flavour::Turns)
+    }
+
     fn call(self, random: &mut Random) -> Event {
         match self {
             Flavour::Enhanced => enhanced_call(random),
             Flavour::Grey => grey::call(random),
+            Flavour::Turns => turns::call(random),
             _ => call(random),
         }
     }
@@ -97,7 +109,7 @@ impl Flavour {
     /// What comes where a reply may be due.
     fn reply(self, random: &mut Random) -> Event {
         match self {
-            Flavour::Scanner => random.pick(&devices::REPLIES),
+            Flavour::Scanner | Flavour::Turns => random.pick(&devices::REPLIES),
             _ => random.pick(&REPLIES),
         }
     }
@@ -167,7 +179,7 @@ pub fn random_events(random: &mut Random, flavour: Flavour, count: usize) -> Vec
     events
 }
 
-fn call(random: &mut Random) -> Event {
+pub fn call(random: &mut Random) -> Event {
     let function = match random.below(8) {
         0 => random.byte(),
         1 | 2 => 0x05,

@@ -17,6 +17,7 @@ mod random;
 mod refused;
 mod scanner;
 mod sets;
+mod turns;
 mod writer;
 
 pub use controller::{random_port_event, typed_at_ports, DONE_AT_PORTS};
@@ -49,6 +50,7 @@ pub fn packs() -> Vec<Pack> {
     refused::add(&mut packs);
     mixes::add(&mut packs);
     scanner::add(&mut packs);
+    turns::add(&mut packs);
     packs
 }
 

@@ -329,8 +329,8 @@ fn add_refused(packs: &mut Vec<Pack>) {
 /// Mixes of the flavours that have no scanner, with one.
 fn add_mixes(packs: &mut Vec<Pack>) {
     let mut random = Random::new(0x206);
-    let alone = FLAVOURS.len() - 1;
-    for &flavour in &FLAVOURS[..alone] {
+    let alone = FLAVOURS.into_iter();
+    for flavour in alone.filter(|flavour| !flavour.has_scanner()) {
         for (count, shortest, longest) in [(40, 1, 60), (20, 100, 600), (2, 2000, 7000)] {
             for _ in 0..count {
                 let events = random.between(shortest, longest);

@@ -29,23 +29,24 @@ impl<Kept> Step<'_, Kept> {
     }
 }
 
-fn each_step<Kept: Memory>(
-    mut service: Service,
-    inputs: &[Input],
-    mut look: impl FnMut(&Step<Kept>),
-) {
-    let mut kept = Kept::default();
-    for input in inputs {
-        let before = service.clone();
-        let seen = service.input(input);
-        kept.keep(&before, input, &seen);
-        look(&Step {
-            before: &before,
-            input,
-            seen,
-            after: &service,
-            kept: &kept,
-        });
+/// Shows each step of random lists, with the number of its list.
+pub fn each_step<Kept: Memory>(seed: u64, mut look: impl FnMut(usize, &Step<Kept>)) {
+    for (list, (set, locks, inputs)) in random_lists(seed, LISTS, LONGEST).enumerate() {
+        let mut service = Service::on_set(set, locks).unwrap();
+        let mut kept = Kept::default();
+        for input in &inputs {
+            let before = service.clone();
+            let seen = service.input(input);
+            kept.keep(&before, input, &seen);
+            let step = Step {
+                before: &before,
+                input,
+                seen,
+                after: &service,
+                kept: &kept,
+            };
+            look(list, &step);
+        }
     }
 }
 
@@ -54,18 +55,12 @@ pub fn lists_that_meet<Kept: Memory, Rule: Fn(&Step<Kept>) -> bool>(
     seed: u64,
     rules: &[Rule],
 ) -> Vec<usize> {
-    let mut counts = vec![0; rules.len()];
-    for (set, locks, inputs) in random_lists(seed, LISTS, LONGEST) {
-        let mut met = vec![0; rules.len()];
-        let service = Service::on_set(set, locks).unwrap();
-        each_step(service, &inputs, |step| {
-            for (met, rule) in met.iter_mut().zip(rules) {
-                *met |= usize::from(rule(step));
-            }
-        });
-        for (count, met) in counts.iter_mut().zip(met) {
-            *count += met;
+    let mut met = vec![[false; LISTS]; rules.len()];
+    each_step(seed, |list, step| {
+        for (met, rule) in met.iter_mut().zip(rules) {
+            met[list] |= rule(step);
         }
-    }
-    counts
+    });
+    let count = |met: &[bool; LISTS]| met.iter().filter(|&&met| met).count();
+    met.iter().map(count).collect()
 }

@@ -21,10 +21,14 @@ returns-2 : tie.Need-returns-2
 unfolding phaseAt if_then_else_
 returns-2 c = rw (c .command-of2 .ensures, c .before .if2 .taken)
 
+kind-of-requires : tie.Need-kind-of-requires
+kind-of-requires c κs = search needs
+
 returns-3 : tie.Need-returns-3
 unfolding phaseAt if_then_else_
-returns-3 c = simp (ne-eqb _ _ (c .if2 .left), ne-eqb _ _ (c .before .before .if1 .left))
+returns-3 c =
+    simp (c .kind-of .ensures, ne-eqb _ _ (c .before .if2 .left), ne-eqb _ _ (c .before .before .before .if1 .left))
 
 pub phase-of-spec : {M : Type 1} → statement M
 phase-of-spec =
-    tie.close (tie.spec command-of-requires returns command-of-requires-2 returns-2 returns-3)
+    tie.close (tie.spec command-of-requires returns command-of-requires-2 returns-2 kind-of-requires returns-3)
