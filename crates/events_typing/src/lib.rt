@@ -14,18 +14,10 @@ use word::Word;
 fn with_ports(service: Service, ports: Ports, shared: Shared) -> Service
     ensures { λ r. ⌜ r ≡ withPorts service ports shared ⌝ }
 {
-    let queue = service.queue;
-    let line = service.line;
-    let codes = service.codes;
-    let controller = service.controller;
-    Service {
-        ports,
-        shared,
-        queue,
-        line,
-        codes,
-        controller,
-    }
+    let mut next = service;
+    next.ports = ports;
+    next.shared = shared;
+    next
 }
 
 // A word is put, or dropped where the queue is full.
@@ -58,18 +50,29 @@ fn apply(service: Service, effect: Effect) -> Outcome
     }
 }
 
-// The one decoder, called with the port of either device. That port takes the keyboard's place for the call, so that for a keyboard byte nothing moves.
+// The one decoder, called with the port of either device.
 pub fn typed(device: Device, service: Service, byte: u8) -> Outcome
     ensures { λ r. ⌜ r ≡ typedOf device service byte ⌝ }
 {
-    let shared = service.shared;
-    let ports = state::turned(device, service.ports);
-    let front = ports.keyboard;
-    let scanner = ports.scanner;
-    let decoded = port_decoder::key_byte(front, shared, byte);
-    let keyboard = decoded.port;
-    let common = decoded.shared;
+    let keyboard = service.ports.keyboard;
+    let scanner = service.ports.scanner;
+    let port = match device {
+        Device::Keyboard => keyboard,
+        Device::Scanner => scanner,
+    };
+    let decoded = port_decoder::key_byte(port, service.shared, byte);
+    let later = decoded.port;
+    let shared = decoded.shared;
     let effect = decoded.effect;
-    let next = state::turned(device, Ports { keyboard, scanner });
-    apply(with_ports(service, next, common), effect)
+    let next = match device {
+        Device::Keyboard => Ports {
+            keyboard: later,
+            scanner,
+        },
+        Device::Scanner => Ports {
+            keyboard,
+            scanner: later,
+        },
+    };
+    apply(with_ports(service, next, shared), effect)
 }

@@ -12,9 +12,9 @@ pub enum Kind {
 
 // A command that runs.
 pub struct Command {
+    pub kind: Kind,
     // the second byte is under way, not the first
     pub operand: bool,
-    pub kind: Kind,
     // its second byte, fixed at the start
     pub value: u8,
     // bytes sent since the start
@@ -38,8 +38,8 @@ pub enum Setting {
 
 // What byte 97 shows of the past.
 pub struct Marks {
-    pub resend: bool,
     pub abandoned: bool,
+    pub resend: bool,
     pub done: u8,
     pub acknowledged: bool,
 }
@@ -68,10 +68,10 @@ pub enum Answer {
 }
 
 pub struct Outcome {
-    pub line: Line,
+    pub answer: Answer,
     // bytes sent by the command that runs, or that ends here
     pub sent: u8,
-    pub answer: Answer,
+    pub line: Line,
 }
 
 // A line as made, and as a restart leaves it.

@@ -16,8 +16,8 @@ pub enum Prefix {
 
 // The left and the right key of a modifier.
 pub struct Sides {
-    pub left: bool,
     pub right: bool,
+    pub left: bool,
 }
 
 pub struct Modifiers {
@@ -27,8 +27,8 @@ pub struct Modifiers {
 }
 
 pub struct Held {
-    pub scroll: bool,
     pub num: bool,
+    pub scroll: bool,
     pub caps: bool,
     pub insert: bool,
     pub sysreq: bool,
@@ -43,16 +43,16 @@ pub struct Port {
 }
 
 pub struct Locks {
-    pub scroll: bool,
     pub caps: bool,
     pub insert: bool,
     pub num: bool,
+    pub scroll: bool,
 }
 
 // What all ports share.
 pub struct Shared {
-    pub paused: bool,
     pub locks: Locks,
+    pub paused: bool,
 }
 
 // What a byte asks of the service.
@@ -65,15 +65,15 @@ pub enum Effect {
 }
 
 pub struct Decoded {
+    pub effect: Effect,
     pub port: Port,
     pub shared: Shared,
-    pub effect: Effect,
 }
 
 // A scan code, after E0 or not.
 pub struct Code {
-    pub scan: ScanCode,
     pub extended: bool,
+    pub scan: ScanCode,
 }
 
 // What a byte is, given the open prefix.

@@ -68,11 +68,6 @@ abbrev pub portsWith : Device → Port → Ports → Ports
 portsWith Keyboard port ports = record { keyboard = port; scanner = ports .scanner }
 portsWith Scanner port ports = record { keyboard = ports .keyboard; scanner = port }
 
--- the port of a device in the keyboard's place, and the other one in the scanner's
-abbrev pub turnedTo : Device → Ports → Ports
-turnedTo Keyboard ports = ports
-turnedTo Scanner ports = record { keyboard = ports .scanner; scanner = ports .keyboard }
-
 abbrev pub withPorts : Service → Ports → Shared → Service
 withPorts service ports shared =
     record { ports = ports; shared = shared; queue = service .queue; line = service .line; codes = service .codes; controller = service .controller }

@@ -1,6 +1,6 @@
 // The state of the service.
 ghost use mathlib.Core.Path.{_≡_};
-ghost use Rattle.state.specs.State.{locksOf, turnedTo, withQueue, withLine, withCodes, withController};
+ghost use Rattle.state.specs.State.{locksOf, withQueue, withLine, withCodes, withController};
 use controller::Controller;
 use line::Line;
 use port::Locks;
@@ -17,14 +17,14 @@ pub enum Device {
 
 // Each device has a port of its own.
 pub struct Ports {
-    pub keyboard: Port,
     pub scanner: Port,
+    pub keyboard: Port,
 }
 
 // The codes and the controller are the keyboard's alone: a scanner sends set 1 to a plug of its own. The order of the fields is that in which a copy is cheapest; it means nothing.
 pub struct Service {
-    pub ports: Ports,
     pub shared: Shared,
+    pub ports: Ports,
     pub codes: Codes,
     pub queue: Queue,
     pub line: Line,
@@ -46,23 +46,6 @@ pub fn locks_of(bits: u8) -> Locks
         num: bits / 2 % 2 == 1,
         caps: bits / 4 % 2 == 1,
         insert: bits / 8 % 2 == 1,
-    }
-}
-
-// The ports with that of a device in the keyboard's place, and the other one in the scanner's.
-pub fn turned(device: Device, ports: Ports) -> Ports
-    ensures { λ r. ⌜ r ≡ turnedTo device ports ⌝ }
-{
-    match device {
-        Device::Keyboard => ports,
-        Device::Scanner => {
-            let keyboard = ports.keyboard;
-            let scanner = ports.scanner;
-            Ports {
-                keyboard: scanner,
-                scanner: keyboard,
-            }
-        }
     }
 }
 

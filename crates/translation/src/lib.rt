@@ -23,8 +23,8 @@ pub enum Passed {
 
 // What comes of a byte: the codes that come after it, and what it becomes.
 pub struct Translated {
-    pub codes: Codes,
     pub passed: Passed,
+    pub codes: Codes,
 }
 
 // Set 1's code for each code of set 2 below 80, eight a line.
