@@ -1,5 +1,6 @@
 // The line to the keyboard: its state, the definitions of its polls and replies, and what holds of them. Their code is in the crates above.
 // Every value of these types has a meaning, reached or not, so no call asks anything of its caller.
+// The order of the fields means nothing; it is the one that costs least.
 ghost use mathlib.Core.Path.{_≡_};
 ghost use Rattle.line.specs.State.{newLine, waitRateOf, sentOf, unchangedOf, isLedOf, ledRunsOf};
 ghost use Rattle.line.specs.Byte97.{byte97Of};
