@@ -1,4 +1,6 @@
 // What an event, a frame or a port event answers, and the number and the word by which a report or a struct for C shows it.
+#![tactic(auto)]
+
 ghost use Rattle.std.specs.Prelude.{◌≡◌};
 ghost use Rattle.answers.specs.declared.Refusal.TheVariants.{Frame, Port};
 ghost use Rattle.answers.specs.Answers.{refused_ans, ans_of, word_of};
@@ -8,7 +10,7 @@ use frame::Fault;
 use word::Word;
 
 // Why an int 16h call, a frame or a port event is turned away.
-#[derive(Drop)]
+#[derive(Clone, Copy)]
 pub enum Refusal {
     Function,
     Delay,
@@ -19,7 +21,7 @@ pub enum Refusal {
 }
 
 // What an event, a frame or a port event answers.
-#[derive(Drop)]
+#[derive(Clone, Copy)]
 pub enum Answer {
     Nothing,
     Put(Word),

@@ -1,4 +1,6 @@
 // A flag byte from its eight bits. The crate also holds the choice and the tests that every other crate's definitions share.
+#![tactic(auto)]
+
 ghost use Rattle.std.specs.Prelude.{◌≡◌};
 ghost use Rattle.bits.specs.Bits.{Weight, byte_of};
 

@@ -1,11 +1,13 @@
 // The keyboard controller at ports 60 and 64: its types, its state and status, what its events do and what holds of them. The code of the events is in
 // `controller_events`. Every value of the types has a meaning, so no call asks anything.
+#![tactic(auto)]
+
 ghost use Rattle.std.specs.Prelude.{◌≡◌};
 ghost use Rattle.controller.specs.State.{new_controller, is_full, status_of};
 ghost use Rattle.controller.specs.PortEvents.{byte_in, interrupt_in, is_key_in};
 
 // What the output buffer holds: nothing, where it keeps the byte that was read last; a byte from the keyboard; or an answer of the controller's own.
-#[derive(Drop)]
+#[derive(Clone, Copy)]
 pub enum Buffer {
     Empty(u8),
     Key(u8),
@@ -14,7 +16,7 @@ pub enum Buffer {
 
 // `command` is the command byte: bit 0 lets a keyboard byte raise interrupt 1, bit 4 disables the
 // keyboard. `awaiting` says that the next write to 60 is the command byte, `commanded` that the last accepted write went to 64.
-#[derive(Drop)]
+#[derive(Clone, Copy)]
 pub struct Controller {
     pub buffer: Buffer,
     pub command: u8,
@@ -23,7 +25,7 @@ pub struct Controller {
 }
 
 // A byte from the keyboard; a read of a port; a byte written to one.
-#[derive(Drop)]
+#[derive(Clone, Copy)]
 pub enum PortEvent {
     FromKeyboard(u8),
     Read60,
@@ -33,7 +35,7 @@ pub enum PortEvent {
 }
 
 // 14: the buffer is full or the keyboard disabled; 15: the command is not listed; 16: no command byte is awaited.
-#[derive(Drop)]
+#[derive(Clone, Copy)]
 pub enum PortRefusal {
     Busy,
     Command,
@@ -42,7 +44,7 @@ pub enum PortRefusal {
 
 // Accepted, with or without interrupt 1; a byte that is read and no more; a key that is read and has to be fed; refused. One of these each
 // time: so nothing but a key is ever fed, and nothing that is read interrupts.
-#[derive(Drop)]
+#[derive(Clone, Copy)]
 pub enum Response {
     Accepted,
     Interrupt,
@@ -52,7 +54,7 @@ pub enum Response {
 }
 
 // What a port event leaves, and what comes of it.
-#[derive(Drop)]
+#[derive(Clone, Copy)]
 pub struct Responded {
     pub controller: Controller,
     pub response: Response,

@@ -1,4 +1,6 @@
 // The code of the five port events.
+#![tactic(auto)]
+
 ghost use Rattle.std.specs.Prelude.{◌≡◌};
 ghost use Rattle.controller.specs.PortEvents.{holding, obeyed_of, disabled_of, enabled_of, from_keyboard_of, read60_of, write60_of, write64_of, responded_of};
 

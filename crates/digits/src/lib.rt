@@ -1,5 +1,7 @@
 // Hexadecimal digits, upper case. Every number of a text is shown by `digit`.
 // Contracts say quotient and remainder; the code only shifts and masks, because small processors take long to divide: document 02, W-204.
+#![tactic(auto)]
+
 ghost use Rattle.std.specs.Prelude.{◌≡◌, ◌/◌, ◌%◌};
 ghost use Rattle.digits.specs.Digits.{digit_of};
 

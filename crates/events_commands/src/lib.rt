@@ -1,4 +1,6 @@
 // The line's events: polls, replies, time-outs and the restart.
+#![tactic(auto)]
+
 ghost use Rattle.std.specs.Prelude.{◌≡◌};
 ghost use Rattle.events.specs.Commands.{led_value, line_answer, on_line, poll_of, acknowledge_of, resend_of, time_out_of, restart_of};
 

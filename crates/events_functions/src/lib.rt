@@ -1,4 +1,6 @@
 // Int 16h: each function by its own handler, and `call`, which finds it.
+#![tactic(auto)]
+
 ghost use Rattle.std.specs.Prelude.{◌≡◌};
 ghost use Rattle.word.specs.OldWord.{old_word_of};
 ghost use Rattle.line.specs.State.{wait_rate_of};

@@ -1,5 +1,7 @@
 // A byte from the keyboard: translated first, then a reply for the line, or a key for its port. A byte from the scanner: always a key for its port.
 // Both take one way, so that the decoder is called from one place, where the compiler puts its code.
+#![tactic(auto)]
+
 ghost use Rattle.std.specs.Prelude.{◌≡◌};
 ghost use Rattle.events_keyboard.specs.Devices.{translated_from, acknowledged_from, resent_from, read_from, byte_from};
 

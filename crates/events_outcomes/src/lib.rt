@@ -1,4 +1,6 @@
 // Outcomes that several kinds of event share.
+#![tactic(auto)]
+
 ghost use Rattle.std.specs.Prelude.{◌≡◌};
 ghost use Rattle.events.specs.Outcomes.{answered_of, offered_of};
 

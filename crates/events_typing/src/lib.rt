@@ -1,4 +1,6 @@
 // A byte at the port of a device, steps 2 to 9, and what its effect does to the queue.
+#![tactic(auto)]
+
 ghost use Rattle.std.specs.Prelude.{◌≡◌};
 ghost use Rattle.state.specs.State.{with_ports};
 ghost use Rattle.events.specs.Keyboard.{put_of, broken_of, on_effect, typed_of};

@@ -1,4 +1,6 @@
 // Frames of the serial line: the eleven bits by which a byte travels between keyboard and board, written and read.
+#![tactic(auto)]
+
 ghost use Rattle.std.specs.Prelude.{◌≡◌};
 ghost use Rattle.frame.specs.Frame.{frame_of, read_frame};
 
@@ -10,7 +12,7 @@ const PARITY: u16 = 0x0200;
 const STOP: u16 = 0x0400;
 
 // Why a frame is refused.
-#[derive(Drop)]
+#[derive(Clone, Copy)]
 pub enum Fault {
     Start,
     Parity,
@@ -18,7 +20,7 @@ pub enum Fault {
 }
 
 // What a frame carries.
-#[derive(Drop)]
+#[derive(Clone, Copy)]
 pub enum Reading {
     Byte(u8),
     Refused(Fault),

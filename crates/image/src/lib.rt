@@ -1,11 +1,12 @@
 // The service as numbers only, laid out as C lays out structs, for callers that know no enum: the types, what any such numbers mean, and what
 // holds of them. An image of zeros is a service newly made on set 1 with no lock on. The code is in `image_making`, `image_controller`,
 // `image_from_service` and `image_to_service`.
+#![tactic(auto)]
 
 // The flag bytes as the BIOS data area has them. Read from an image, they are the service's modifiers, held bits, locks, pause and marks; the
 // bits that follow from others (either Ctrl, either Alt, an open prefix, a LED command that runs) and those that have no meaning are not read.
 #[repr(C)]
-#[derive(Drop)]
+#[derive(Clone, Copy)]
 pub struct FlagBytes {
     pub byte17: u8,
     pub byte18: u8,
@@ -15,7 +16,7 @@ pub struct FlagBytes {
 
 // A value that may be missing: then both numbers are 0.
 #[repr(C)]
-#[derive(Drop)]
+#[derive(Clone, Copy)]
 pub struct SettingImage {
     pub known: u8,
     pub value: u8,
@@ -24,7 +25,7 @@ pub struct SettingImage {
 // `phase` is 0 for idle, 1 while a reply is awaited, 2 where a poll is due; any other number is read as idle. `kind` is 0 for a LED command, else a
 // rate command. An idle line has no command: `kind` is then the kind whose turn it is, and the four numbers behind it are 0.
 #[repr(C)]
-#[derive(Drop)]
+#[derive(Clone, Copy)]
 pub struct CommandImage {
     pub phase: u8,
     pub kind: u8,
@@ -36,7 +37,7 @@ pub struct CommandImage {
 
 // The line but for its marks, which byte 97 has.
 #[repr(C)]
-#[derive(Drop)]
+#[derive(Clone, Copy)]
 pub struct LineImage {
     pub rate: SettingImage,
     pub handled: SettingImage,
@@ -44,14 +45,14 @@ pub struct LineImage {
 }
 
 #[repr(C)]
-#[derive(Drop)]
+#[derive(Clone, Copy)]
 pub struct WordImage {
     pub scan: u8,
     pub ascii: u8,
 }
 
 #[repr(C)]
-#[derive(Drop)]
+#[derive(Clone, Copy)]
 pub struct QueueImage {
     pub words: [WordImage; 16],
     pub head: usize,
@@ -62,7 +63,7 @@ pub struct QueueImage {
 // byte 17 has the Shift keys. The last three are the held bits: of `locks` bit 0 is Scroll, 1 Num, 2 Caps; `insert` and `sysreq` are 0 or 1, and any
 // other number is read as 1.
 #[repr(C)]
-#[derive(Drop)]
+#[derive(Clone, Copy)]
 pub struct PortImage {
     pub prefix: u8,
     pub sum: u8,
@@ -78,7 +79,7 @@ pub struct PortImage {
 // empty the byte that was read last. `command` is the command byte with bit 0 turned over, so that 01, which is new, is 0 here. `awaiting` and `commanded` are 0 or 1, and any
 // other number is read as 1. `spare` is zeros and not read.
 #[repr(C)]
-#[derive(Drop)]
+#[derive(Clone, Copy)]
 pub struct ControllerImage {
     pub buffer: u8,
     pub byte: u8,
@@ -93,7 +94,7 @@ pub struct ControllerImage {
 // break, and any other number is read as set 1. `sum` is the keyboard's Alt sum. 80 bytes, none of
 // them padding.
 #[repr(C)]
-#[derive(Drop)]
+#[derive(Clone, Copy)]
 pub struct Image {
     pub flags: FlagBytes,
     pub input: u8,

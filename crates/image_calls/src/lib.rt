@@ -1,12 +1,14 @@
 // The calls for C on an image: what goes over, the definitions of what each call leaves, returns and writes, and what holds of lists of them.
 // Their code is in `image_reading`, `image_renewal`, `image_events` and `xiquepazo`.
+#![tactic(auto)]
+
 use events::Event;
 use image::Image;
 use state::Service;
 
 // What is seen of an event: its number, its word, the count of bytes sent, and the flag bytes after it.
 #[repr(C)]
-#[derive(Drop)]
+#[derive(Clone, Copy)]
 pub struct Shown {
     pub word: u16,
     pub ans: u8,
@@ -20,7 +22,7 @@ pub struct Shown {
 // What is seen of a port event: what is seen of any event, with the key that it feeds among it; the byte read, 0 where none is; the status after it;
 // and, as 0 or 1, whether interrupt 1 is raised and whether the byte was fed.
 #[repr(C)]
-#[derive(Drop)]
+#[derive(Clone, Copy)]
 pub struct PortShown {
     pub shown: Shown,
     pub byte: u8,
@@ -31,7 +33,7 @@ pub struct PortShown {
 
 // An event as a pack writes it: its capital and up to three bytes.
 #[repr(C)]
-#[derive(Drop)]
+#[derive(Clone, Copy)]
 pub struct Tagged {
     pub tag: u8,
     pub a: u8,
@@ -39,14 +41,14 @@ pub struct Tagged {
     pub c: u8,
 }
 
-#[derive(Drop)]
+#[derive(Clone, Copy)]
 pub enum Recognised {
     Unknown,
     Event(Event),
 }
 
 // A service after an event, and what it answered.
-#[derive(Drop)]
+#[derive(Clone, Copy)]
 pub struct Ran {
     pub service: Service,
     pub ans: u8,
@@ -54,19 +56,19 @@ pub struct Ran {
     pub sent: u8,
 }
 
-#[derive(Drop)]
+#[derive(Clone, Copy)]
 pub struct Changed {
     pub image: Image,
     pub shown: Shown,
 }
 
-#[derive(Drop)]
+#[derive(Clone, Copy)]
 pub struct PortChanged {
     pub image: Image,
     pub shown: PortShown,
 }
 
-#[derive(Drop)]
+#[derive(Clone, Copy)]
 pub struct Refused {
     pub image: Image,
     pub refusal: u8,
@@ -74,7 +76,7 @@ pub struct Refused {
 
 // `next` is where the next event begins, or the start where none was read; then the tag is 0.
 #[repr(C)]
-#[derive(Drop)]
+#[derive(Clone, Copy)]
 pub struct Reading {
     pub next: usize,
     pub event: Tagged,

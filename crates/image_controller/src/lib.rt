@@ -1,4 +1,6 @@
 // The controller to numbers and back, and an image with another controller.
+#![tactic(auto)]
+
 ghost use Rattle.std.specs.Prelude.{◌≡◌};
 ghost use Rattle.image.specs.Image.{on_controller};
 ghost use Rattle.image.specs.ImageController.{turned_over, buffer_number, held_in, buffer_at, controller_image, controller_at, new_controller_image};

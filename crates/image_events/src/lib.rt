@@ -1,4 +1,6 @@
 // An event on an image, by value. A refused event leaves every number of the image.
+#![tactic(auto)]
+
 ghost use Rattle.std.specs.Prelude.{◌≡◌};
 ghost use Rattle.image_calls.specs.Exports.{shown_with, controller_after, event_run, ans_in, ran_of, event_to};
 ghost use Rattle.events.specs.ControllerLaws.{is_restart};

@@ -1,4 +1,6 @@
 // Services to images.
+#![tactic(auto)]
+
 ghost use Rattle.std.specs.Prelude.{◌≡◌};
 ghost use Rattle.image.specs.Image.{image_of, on_controller};
 

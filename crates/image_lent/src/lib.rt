@@ -1,4 +1,6 @@
 // An event on an image that is lent, or on a copy of one; and what is shown where no event has anything to tell.
+#![tactic(auto)]
+
 ghost use Rattle.std.specs.Prelude.{◌≡◌};
 ghost use Rattle.answers.specs.Answers.{refusal_number};
 ghost use Rattle.image_calls.specs.Exports.{with_answer, answered_nothing, refused_in, written, event_to, flags_to};

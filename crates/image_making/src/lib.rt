@@ -1,4 +1,6 @@
 // The image of a service newly made, and the byte of an image that says which codes come: written, read, and changed to a set.
+#![tactic(auto)]
+
 ghost use Rattle.std.specs.Prelude.{◌≡◌, ◌/◌};
 ghost use Rattle.translation.specs.Translation.{set_of};
 ghost use Rattle.image.specs.Image.{new_image, on_set};

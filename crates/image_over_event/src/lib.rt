@@ -1,4 +1,6 @@
 // The calls that go over an event: a report, a frame and a change of set. Each runs the event on a copy, so that its code stands in the library once.
+#![tactic(auto)]
+
 ghost use Rattle.std.specs.Prelude.{◌≡◌};
 ghost use Rattle.report.specs.Report.{report_from};
 ghost use Rattle.image_calls.specs.Exports.{seen, frame_to, change_to, report_to, written_to};

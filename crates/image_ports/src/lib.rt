@@ -1,4 +1,6 @@
 // The calls on the ports: the controller's numbers respond, and what the service has to do with it is an event on a copy.
+#![tactic(auto)]
+
 ghost use Rattle.std.specs.Prelude.{◌≡◌};
 ghost use Rattle.state.specs.State.{with_controller};
 ghost use Rattle.events.specs.Controller.{on_response};

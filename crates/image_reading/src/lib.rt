@@ -1,4 +1,6 @@
 // Events as C has them, by tag and bytes, and a pack as C reads it, event by event.
+#![tactic(auto)]
+
 ghost use Rattle.std.specs.Prelude.{◌≡◌, ◌≤◌, length, drop};
 ghost use Rattle.pack.specs.Reading.{first_of, rest_of};
 ghost use Rattle.image_calls.specs.Exports.{written, recognised, is_unknown};

@@ -1,4 +1,6 @@
 // An image made on either set, and one resynchronised, by value. A refused call leaves every number of the image.
+#![tactic(auto)]
+
 ghost use Rattle.std.specs.Prelude.{◌≡◌};
 ghost use Rattle.image_calls.specs.Exports.{make_to, resynchronised_to};
 

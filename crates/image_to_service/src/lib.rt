@@ -1,4 +1,6 @@
 // Images to the services that they mean.
+#![tactic(auto)]
+
 ghost use Rattle.std.specs.Prelude.{◌≡◌};
 ghost use Rattle.image.specs.Image.{keyboard_at, bare_service_of};
 

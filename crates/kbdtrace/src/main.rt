@@ -1,4 +1,6 @@
 // Reads a pack on standard input and writes its trace. What cannot be done is told in one line on standard error.
+#![tactic(auto)]
+
 use libc::{STDERR_FILENO, STDIN_FILENO};
 use trace_file::Traced;
 

@@ -1,4 +1,6 @@
 // The service lent and changed in place: thin calls over the calls by value.
+#![tactic(auto)]
+
 ghost use Rattle.std.specs.Prelude.{◌≡◌};
 ghost use Rattle.report.specs.Reported.{buffer_of};
 ghost use Rattle.lent_calls.specs.Lent.{made_in, event_in, frame_in, change_in, port_in, reported_in, resynchronised_in};

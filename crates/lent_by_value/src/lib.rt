@@ -1,4 +1,6 @@
 // What a lent call that runs an event does, by value: the service that it leaves and what it returns.
+#![tactic(auto)]
+
 ghost use Rattle.std.specs.Prelude.{◌≡◌};
 ghost use Rattle.report.specs.Reported.{buffer_of};
 ghost use Rattle.lent_calls.specs.Lent.{event_in, frame_in, port_in, reported_in};

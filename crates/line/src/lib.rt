@@ -1,19 +1,21 @@
 // The line to the keyboard: its state, the definitions of its polls and replies, and what holds of them. Their code is in the crates above.
 // Every value of these types has a meaning, reached or not, so no call asks anything of its caller.
 // The order of the fields means nothing; it is the one that costs least.
+#![tactic(auto)]
+
 ghost use Rattle.std.specs.Prelude.{◌≡◌};
 ghost use Rattle.line.specs.State.{new_line, wait_rate_of, sent_of, unchanged_of, is_led_of, led_runs_of};
 ghost use Rattle.line.specs.Byte97.{byte97_of};
 
 // ED with the lamps, or F3 with the repeat rate.
-#[derive(Drop)]
+#[derive(Clone, Copy)]
 pub enum Kind {
     Led,
     Rate,
 }
 
 // A command that runs.
-#[derive(Drop)]
+#[derive(Clone, Copy)]
 pub struct Command {
     pub kind: Kind,
     // the second byte is under way, not the first
@@ -27,7 +29,7 @@ pub struct Command {
 }
 
 // An idle line knows whose turn it is. A command awaits the reply to a send, or is ready for the poll that sends.
-#[derive(Drop)]
+#[derive(Clone, Copy)]
 pub enum Phase {
     Idle(Kind),
     Awaiting(Command),
@@ -35,14 +37,14 @@ pub enum Phase {
 }
 
 // An operand that may be missing.
-#[derive(Drop)]
+#[derive(Clone, Copy)]
 pub enum Setting {
     None,
     Value(u8),
 }
 
 // What byte 97 shows of the past.
-#[derive(Drop)]
+#[derive(Clone, Copy)]
 pub struct Marks {
     pub abandoned: bool,
     pub resend: bool,
@@ -50,7 +52,7 @@ pub struct Marks {
     pub acknowledged: bool,
 }
 
-#[derive(Drop)]
+#[derive(Clone, Copy)]
 pub struct Line {
     pub phase: Phase,
     pub marks: Marks,
@@ -61,13 +63,13 @@ pub struct Line {
 }
 
 // What an idle poll starts: a command with its operand, or nothing.
-#[derive(Drop)]
+#[derive(Clone, Copy)]
 pub enum Next {
     Nothing,
     Start(Kind, u8),
 }
 
-#[derive(Drop)]
+#[derive(Clone, Copy)]
 pub enum Answer {
     Send(u8),
     Quiet,
@@ -76,7 +78,7 @@ pub enum Answer {
     GivenUp,
 }
 
-#[derive(Drop)]
+#[derive(Clone, Copy)]
 pub struct Outcome {
     pub answer: Answer,
     // bytes sent by the command that runs, or that ends here

@@ -1,4 +1,6 @@
 // A poll of the line: which command starts, the byte under way and its counts.
+#![tactic(auto)]
+
 ghost use Rattle.std.specs.Prelude.{◌≡◌};
 ghost use Rattle.line.specs.State.{is_value_of};
 ghost use Rattle.line.specs.Poll.{waiting_of, unhandled_of, first_of, next_of, one_more_of, first_byte_of, due_of, counted_of, send_of, rate_left_of, start_of, idle_poll_of, poll_of};

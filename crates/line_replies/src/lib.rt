@@ -1,4 +1,6 @@
 // What FA, FE and a time-out make of the command whose reply is awaited, and the marks of byte 97 that they set.
+#![tactic(auto)]
+
 ghost use Rattle.std.specs.Prelude.{◌≡◌};
 ghost use Rattle.line.specs.State.{in_phase_of, with_marks_of};
 ghost use Rattle.line.specs.Reply.{mark_acknowledged_of, mark_resend_of, mark_done_of, mark_abandoned_of, ended_of, operand_of, acknowledged_of, failed_of, acknowledge_of, resend_of, time_out_of};

@@ -1,11 +1,13 @@
 // Packs: what a reading of one finds, and its refusals.
+#![tactic(auto)]
+
 ghost use Rattle.std.specs.Prelude.{◌≡◌};
 ghost use Rattle.pack.specs.Reading.{refusal_of};
 
 use events::Event;
 
 // What a reading finds: an event with the count of its bytes, the end, or why there is neither.
-#[derive(Drop)]
+#[derive(Clone, Copy)]
 pub enum Read {
     Event(Event, usize),
     End,

@@ -1,4 +1,6 @@
 // One event is read from a part of a pack, and the part after it is handed on.
+#![tactic(auto)]
+
 ghost use Rattle.std.specs.Prelude.{◌≡◌};
 ghost use Rattle.events.specs.declared.Event.TheVariants.{Key, Scan};
 ghost use Rattle.pack.specs.Reading.{byte_of, call_of, tagged_of, first_of, read_at, part_at, rest_of};

@@ -1,4 +1,6 @@
 // Step 7: a character entered as a number on the keypad, with Alt down.
+#![tactic(auto)]
+
 ghost use Rattle.std.specs.Prelude.{◌≡◌};
 ghost use Rattle.port.specs.AltEntry.{digit_in, alt_digit, sum_after, sum_put, alt_ended};
 

@@ -1,4 +1,6 @@
 // A byte at a keyboard port: steps 2 to 9 of document 01, by value. The replies FA and FE are taken out before a byte comes here.
+#![tactic(auto)]
+
 ghost use Rattle.std.specs.Prelude.{◌≡◌};
 ghost use Rattle.port.specs.KeyByte.{code_read, key_byte_of};
 ghost use Rattle.port_decoder.specs.Rowless.{is_no_row};

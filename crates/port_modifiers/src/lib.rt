@@ -1,4 +1,6 @@
 // Step 4: modifiers, held bits and locks.
+#![tactic(auto)]
+
 ghost use Rattle.std.specs.Prelude.{◌≡◌, ◌<◌};
 ghost use Rattle.port.specs.Flags.{modifiers_after, held_after, locks_after, flags_changed};
 ghost use Rattle.port_modifiers.specs.Named.{is_key, is_named};

@@ -1,4 +1,6 @@
 // Steps 2 and 3: the prefix machine.
+#![tactic(auto)]
+
 ghost use Rattle.std.specs.Prelude.{◌≡◌};
 ghost use Rattle.port.specs.Prefix.{opened, continued, reading_of};
 

@@ -1,5 +1,7 @@
 // The queue of 15 words. Every value of the struct is a queue, so no call requires anything:
 // a place beyond the fifteenth goes on at the first, and a count above 15 stands for 15.
+#![tactic(auto)]
+
 ghost use Rattle.std.specs.Prelude.{◌≡◌};
 ghost use Rattle.queue.specs.Queue.{empty_queue, place_of, held_in, oldest_of, rest_of, put_of, take_of};
 ghost use Rattle.queue.specs.Enhanced.{starts_enhanced, past_enhanced};
@@ -12,7 +14,7 @@ const CAPACITY: usize = 15;
 const PLACES: usize = 16;
 
 // The words from the place `head` on, `count` of them, round the first 15 places.
-#[derive(Drop)]
+#[derive(Clone, Copy)]
 pub struct Queue {
     pub count: usize,
     pub words: [Word; PLACES],
@@ -20,21 +22,21 @@ pub struct Queue {
 }
 
 // The oldest word of a queue, if it has one.
-#[derive(Drop)]
+#[derive(Clone, Copy)]
 pub enum Oldest {
     None,
     Is(Word),
 }
 
 // What a put leaves: a word that is not stored is dropped.
-#[derive(Drop)]
+#[derive(Clone, Copy)]
 pub struct AfterPut {
     pub stored: bool,
     pub queue: Queue,
 }
 
 // What a take gives and leaves.
-#[derive(Drop)]
+#[derive(Clone, Copy)]
 pub struct Taken {
     pub oldest: Oldest,
     pub queue: Queue,

@@ -1,4 +1,6 @@
 // The call that runs an event and writes its report to a lent buffer.
+#![tactic(auto)]
+
 ghost use Rattle.std.specs.Prelude.{◌≡◌};
 ghost use Rattle.report.specs.Reported.{refusal_in, reported_of, buffer_of};
 

@@ -1,4 +1,6 @@
 // The text of a report, written to a buffer.
+#![tactic(auto)]
+
 ghost use Rattle.std.specs.Prelude.{◌≡◌, ◌++◌, ◌≤◌, length, drop};
 ghost use Rattle.report.specs.Text.{text_of};
 ghost use Rattle.report.specs.Reported.{written_of};

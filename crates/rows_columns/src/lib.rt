@@ -1,4 +1,6 @@
 // Which column of a row applies, by what is on.
+#![tactic(auto)]
+
 ghost use Rattle.std.specs.Prelude.{◌≡◌};
 ghost use Rattle.rows.specs.Column.{is_letter, is_keypad, is_shifted, column_of};
 

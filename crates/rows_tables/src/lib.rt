@@ -1,4 +1,6 @@
 // The rows as tables of numbers, and the entry of a make looked up in them.
+#![tactic(auto)]
+
 ghost use Rattle.std.specs.Prelude.{◌≡◌};
 ghost use Rattle.rows.specs.Lookup.{lookup_of};
 ghost use Rattle.rows_tables.specs.Layout.{entry_of, index_of, place_of, cell_of};

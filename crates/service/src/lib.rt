@@ -1,4 +1,6 @@
 // The service after one event of any kind, or one frame. Every value of the types has a meaning, so no call asks anything.
+#![tactic(auto)]
+
 ghost use Rattle.std.specs.Prelude.{◌≡◌};
 ghost use Rattle.events.specs.Step.{empty_of, step_of};
 ghost use Rattle.events.specs.Frames.{frame_step_of};
@@ -9,7 +11,7 @@ use frame::Reading;
 use state::{Device, Service};
 
 // A byte, and the device that sent it.
-#[derive(Drop)]
+#[derive(Clone, Copy)]
 struct Incoming {
     device: Device,
     byte: u8,

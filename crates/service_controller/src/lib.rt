@@ -1,4 +1,6 @@
 // A port event at the service: the controller responds, and a key that is read at 60 is fed as the event of its byte.
+#![tactic(auto)]
+
 ghost use Rattle.std.specs.Prelude.{◌≡◌};
 ghost use Rattle.events.specs.Controller.{on_response, port_step_of};
 

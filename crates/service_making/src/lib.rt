@@ -1,4 +1,6 @@
 // Services newly made, after a change of set, and resynchronised. Every value of the types has a meaning, so no call asks anything.
+#![tactic(auto)]
+
 ghost use Rattle.std.specs.Prelude.{◌≡◌, []};
 ghost use Rattle.state.specs.State.{quiet_of, new_service, make_of};
 ghost use Rattle.events.specs.Sets.{change_of};

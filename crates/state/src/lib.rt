@@ -1,4 +1,6 @@
 // The state of the service.
+#![tactic(auto)]
+
 ghost use Rattle.std.specs.Prelude.{◌≡◌};
 ghost use Rattle.state.specs.State.{locks_of, with_queue, with_line, with_codes, with_controller};
 
@@ -9,21 +11,21 @@ use queue::Queue;
 use translation::Codes;
 
 // Whose bytes reach a port.
-#[derive(Drop)]
+#[derive(Clone, Copy)]
 pub enum Device {
     Keyboard,
     Scanner,
 }
 
 // Each device has a port of its own.
-#[derive(Drop)]
+#[derive(Clone, Copy)]
 pub struct Ports {
     pub scanner: Port,
     pub keyboard: Port,
 }
 
 // The codes and the controller are the keyboard's alone: a scanner sends set 1 to a plug of its own. The order of the fields is that in which a copy is cheapest; it means nothing.
-#[derive(Drop)]
+#[derive(Clone, Copy)]
 pub struct Service {
     pub shared: Shared,
     pub ports: Ports,
@@ -34,7 +36,7 @@ pub struct Service {
 }
 
 // A service made from lock bits. With refusal 1, for bits above 15, it is the service of bits 0.
-#[derive(Drop)]
+#[derive(Clone, Copy)]
 pub struct Made {
     pub refusal: u8,
     pub service: Service,

@@ -1,4 +1,6 @@
 // The flag bytes of the BIOS data area.
+#![tactic(auto)]
+
 ghost use Rattle.std.specs.Prelude.{◌≡◌};
 ghost use Rattle.state.specs.Flags.{e0_open, e1_open, byte17_of, byte18_of, byte96_of, byte97_of};
 

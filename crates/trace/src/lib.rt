@@ -1,4 +1,6 @@
 // The text of a pack, part by part: what it is, that its parts are the whole, and where printing begins. A part is written by `trace_parts`.
+#![tactic(auto)]
+
 ghost use Rattle.std.specs.Prelude.{◌≡◌};
 ghost use Rattle.trace.specs.Parts.{first_place};
 
@@ -12,7 +14,7 @@ pub const REPORTS: usize = 372;
 pub const PART: usize = REPORTS * report::LENGTH;
 
 // A place in the text of a pack: before the report of the event at this offset, which this service will run; or, ended, behind the closing lines.
-#[derive(Drop)]
+#[derive(Clone, Copy)]
 pub struct Place {
     pub service: Service,
     pub offset: u16,
@@ -20,7 +22,7 @@ pub struct Place {
 }
 
 // What a call printed, counted in bytes, and the place that it leaves for the next call.
-#[derive(Drop)]
+#[derive(Clone, Copy)]
 pub struct Part {
     pub place: Place,
     pub length: usize,

@@ -1,4 +1,6 @@
 // The trace of the pack in an open file, on standard output: what the programs share.
+#![tactic(auto)]
+
 ghost use Rattle.std.specs.Prelude.{◌≡◌, ◌+◌, ◌≤◌, length};
 ghost use Rattle.pack.specs.Reading.{limit};
 ghost use Rattle.trace.specs.Parts.{part_length};
@@ -9,7 +11,7 @@ use libc::STDOUT_FILENO;
 const INPUT: usize = pack_reading::LIMIT + 1;
 
 // What came of a trace: written whole, or a read or a write failed, and errno says why.
-#[derive(Drop)]
+#[derive(Clone, Copy)]
 pub enum Traced {
     Whole,
     NotRead,
@@ -17,7 +19,7 @@ pub enum Traced {
 }
 
 // What was read of a file: how many of its bytes stand in the buffer, and whether a read failed.
-#[derive(Drop)]
+#[derive(Clone, Copy)]
 struct Got {
     length: usize,
     failed: bool,

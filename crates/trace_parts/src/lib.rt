@@ -1,4 +1,6 @@
 // A part of the text of a pack, written: the reports of its events, then where reading ended and why.
+#![tactic(auto)]
+
 ghost use Rattle.std.specs.Prelude.{◌≡◌, ◌++◌, ◌+◌, ◌≤◌, length, take, drop};
 ghost use Rattle.events.specs.Run.{next};
 ghost use Rattle.pack.specs.Reading.{read_at, refusal_of};

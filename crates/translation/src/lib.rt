@@ -1,16 +1,18 @@
 // Scan code set 2 and its translation to set 1, which stands before the first step of a keyboard byte. A byte of set 1 passes as it is.
+#![tactic(auto)]
+
 ghost use Rattle.std.specs.Prelude.{◌≡◌};
 ghost use Rattle.translation.specs.Translation.{unmarked_of, set_of, set_one_code, break_of, passes, from_set_two, translated_of};
 
 // The scan code set that a keyboard sends.
-#[derive(Drop)]
+#[derive(Clone, Copy)]
 pub enum CodeSet {
     One,
     Two,
 }
 
 // The codes that come: those of set 1, those of set 2, or those of set 2 with the next one marked as a break.
-#[derive(Drop)]
+#[derive(Clone, Copy)]
 pub enum Codes {
     SetOne,
     SetTwo,
@@ -18,14 +20,14 @@ pub enum Codes {
 }
 
 // What a byte becomes: nothing, or a byte of set 1.
-#[derive(Drop)]
+#[derive(Clone, Copy)]
 pub enum Passed {
     Nothing,
     Byte(u8),
 }
 
 // What comes of a byte: the codes that come after it, and what it becomes.
-#[derive(Drop)]
+#[derive(Clone, Copy)]
 pub struct Translated {
     pub passed: Passed,
     pub codes: Codes,

@@ -1,4 +1,6 @@
 // Writes the trace of each pack that an argument names, under a line with that name.
+#![tactic(auto)]
+
 use libc::STDOUT_FILENO;
 use trace_file::Traced;
 

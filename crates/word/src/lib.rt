@@ -1,16 +1,18 @@
 // Scan codes, ASCII bytes and the words made of them. The three types are built and opened in this crate only.
+#![tactic(auto)]
+
 ghost use Rattle.std.specs.Prelude.{◌≡◌};
 ghost use Rattle.word.specs.Word.{code_of, ascii_of, is_code, within, table_index, word_with, is_enhanced, word_from, number_of};
 
 // The number of a key.
-#[derive(Drop)]
+#[derive(Clone, Copy)]
 pub struct ScanCode(u8);
 
 // The number of a character.
-#[derive(Drop)]
+#[derive(Clone, Copy)]
 pub struct Ascii(u8);
 
-#[derive(Drop)]
+#[derive(Clone, Copy)]
 pub struct Word {
     scan: ScanCode,
     ascii: Ascii,

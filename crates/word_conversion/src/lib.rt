@@ -1,4 +1,6 @@
 // Words as old programs know them.
+#![tactic(auto)]
+
 ghost use Rattle.std.specs.Prelude.{◌≡◌};
 ghost use Rattle.word.specs.OldWord.{has_bytes, old_word_of};
 

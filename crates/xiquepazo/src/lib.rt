@@ -1,4 +1,6 @@
 // The calls for C and Rust: thin calls over the calls by value, on an image that the caller lends.
+#![tactic(auto)]
+
 ghost use Rattle.std.specs.Prelude.{◌≡◌};
 ghost use Rattle.frame.specs.Frame.{frame_of};
 ghost use Rattle.image_calls.specs.Reads.{read_to};

@@ -1,0 +1,7 @@
+-- The proof of `digits::high`.
+-- Assumes nothing.
+use borrow.Author.Rules.{rules}
+use Rattle.digits.proofs.high.Goals as goal
+
+pub returns : goal.returns
+returns c = simp (c.digit.ensures, ← c.high_nibble.ensures)

@@ -1,0 +1,27 @@
+-- The proof of `line::led_runs`.
+-- Assumes nothing.
+use Rattle.line.specs.State.{led_runs_of, led_runs_in}
+use borrow.Author.Rules.{rules}
+use Rattle.line.proofs.led_runs.Goals as goal
+
+pub returns-in-Idle : goal.returns-in-Idle
+unfolding led_runs_of led_runs_in
+returns-in-Idle c =
+    simp
+    c.enum_told-1.given.1
+
+pub returns-in-Awaiting : goal.returns-in-Awaiting
+unfolding led_runs_of led_runs_in
+returns-in-Awaiting c =
+    simp (
+      c.is_led.ensures,
+      c.phase-1.given.1,
+    )
+
+pub returns-in-Ready : goal.returns-in-Ready
+unfolding led_runs_of led_runs_in
+returns-in-Ready c =
+    simp (
+      c.is_led-in-Ready.ensures,
+      c.phase-in-Ready-1.given.1,
+    )
