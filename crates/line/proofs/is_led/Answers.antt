@@ -8,10 +8,10 @@ pub returns-in-Led : goal.returns-in-Led
 unfolding is_led_of
 returns-in-Led c =
     simp
-    c.enum_told-1.given.1
+    c.in-Led.is
 
 pub returns-in-Rate : goal.returns-in-Rate
 unfolding is_led_of
 returns-in-Rate c =
     simp
-    c.enum_told-in-Rate-1.given.1
+    c.in-Rate.is

@@ -8,14 +8,14 @@ pub returns-in-Idle : goal.returns-in-Idle
 unfolding led_runs_of led_runs_in
 returns-in-Idle c =
     simp
-    c.enum_told-1.given.1
+    c.in-Idle.is
 
 pub returns-in-Awaiting : goal.returns-in-Awaiting
 unfolding led_runs_of led_runs_in
 returns-in-Awaiting c =
     simp (
       c.is_led.ensures,
-      c.phase-1.given.1,
+      c.in-Awaiting.is,
     )
 
 pub returns-in-Ready : goal.returns-in-Ready
@@ -23,5 +23,5 @@ unfolding led_runs_of led_runs_in
 returns-in-Ready c =
     simp (
       c.is_led-in-Ready.ensures,
-      c.phase-in-Ready-1.given.1,
+      c.in-Ready.is,
     )

@@ -8,16 +8,16 @@ pub returns-in-Idle : goal.returns-in-Idle
 unfolding sent_of sent_in
 returns-in-Idle c =
     simp
-    c.enum_told-1.given.1
+    c.in-Idle.is
 
 pub returns-in-Awaiting : goal.returns-in-Awaiting
 unfolding sent_of sent_in
 returns-in-Awaiting c =
     simp
-    c.phase-1.given.1
+    c.in-Awaiting.is
 
 pub returns-in-Ready : goal.returns-in-Ready
 unfolding sent_of sent_in
 returns-in-Ready c =
     simp
-    c.phase-in-Ready-1.given.1
+    c.in-Ready.is

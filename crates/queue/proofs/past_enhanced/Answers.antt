@@ -8,16 +8,6 @@ use Rattle.queue.specs.Enhanced.{past_enhanced}
 use Rattle.queue.proofs.Past.{one_fewer, past_one, past_end}
 use Rattle.queue.proofs.past_enhanced.Goals as goal
 
--- INVARIANT
--- abbrev invariant-loop : tie.invariant-loop
--- invariant-loop seen₀ seen = past_enhanced seen₀ ≡ past_enhanced seen
---
-
--- INVARIANT
--- abbrev decreases-loop : tie.decreases-loop
--- decreases-loop seen₀ seen = held_in seen
---
-
 pub loop-seen-init : goal.loop-seen-init
 loop-seen-init c = refl
 

@@ -4,7 +4,7 @@ use borrow.Author.Rules.{rules}
 use Rattle.queue.proofs.starts_enhanced.Goals as goal
 
 pub returns-in-None : goal.returns-in-None
-returns-in-None c = simp (c.enum_told-1.given.1, ← c.first.ensures)
+returns-in-None c = simp (c.in-None.is, ← c.first.ensures)
 
 pub returns-in-Is : goal.returns-in-Is
-returns-in-Is c = simp (c.is_enhanced.ensures, c.word-1.given.1, ← c.first.ensures)
+returns-in-Is c = simp (c.is_enhanced.ensures, c.in-Is.is, ← c.first.ensures)

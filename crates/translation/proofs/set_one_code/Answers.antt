@@ -15,12 +15,12 @@ returns-then-code-lt128 c = in_lines_lem c.args.code c.if-code-lt128.true ∙ si
 
 pub returns-in-131 : goal.returns-in-131
 unfolding set_one_code if◌then◌else◌
-returns-in-131 c = rw c.in-131.keys1
+returns-in-131 c = rw c.in-131.is
 
 pub returns-in-132 : goal.returns-in-132
 unfolding set_one_code if◌then◌else◌
-returns-in-132 c = rw c.in-132.keys2
+returns-in-132 c = rw c.in-132.is
 
 pub returns-in_default : goal.returns-in_default
 unfolding set_one_code if◌then◌else◌
-returns-in_default c = let r = c.in_default.rest in simp (le-ltb _ _ c.if-code-lt128.false, ne_eqb _ _ r.0.1, ne_eqb _ _ r.1)
+returns-in_default c = let r = c.in_default.in_default-own.rest in simp (le-ltb _ _ c.if-code-lt128.false, ne_eqb _ _ r.0.1, ne_eqb _ _ r.1)
