@@ -1,0 +1,24 @@
+-- The proof of `line_replies::failed`.
+-- Assumes nothing.
+use Rattle.bits.specs.Choice.{if◌then◌else◌}
+use Rattle.line.specs.Reply.{failed_of}
+use borrow.Author.Tests.{le-ltb, lt-ltb}
+use borrow.Author.Rules.{rules}
+use Rattle.line_replies.proofs.failed.Goals as goal
+
+pub returns-then-command-lt3 : goal.returns-then-command-lt3
+unfolding failed_of if◌then◌else◌
+returns-then-command-lt3 c =
+    simp (
+      c.in_phase.ensures,
+      lt-ltb _ _ c.if-command-lt3.true,
+    )
+
+pub returns : goal.returns
+unfolding failed_of if◌then◌else◌
+returns c =
+    simp (
+      c.ended.ensures,
+      ← c.mark_abandoned.ensures,
+      le-ltb _ _ c.if-command-lt3.false,
+    )

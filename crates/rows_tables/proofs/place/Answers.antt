@@ -1,0 +1,27 @@
+-- The proof of `rows_tables::place`.
+-- Assumes nothing.
+use Rattle.bits.specs.Choice.{if◌then◌else◌}
+use mathlib.Core.Bool.{true, false}
+use Rattle.rows_tables.proofs.Table.{placed}
+use borrow.Author.Tests.{le-ltb}
+use Rattle.rows_tables.specs.Layout.{place_of, places}
+use borrow.Author.Rules.{rules}
+use Rattle.rows_tables.proofs.place.Goals as goal
+
+pub returns-then-at-ge96 : goal.returns-then-at-ge96
+unfolding place_of if◌then◌else◌
+returns-then-at-ge96 c = simp (← c.table_index-at.ensures, le-ltb _ _ c.if-at-ge96.true)
+
+pub returns-then-extended : goal.returns-then-extended
+unfolding places if◌then◌else◌
+returns-then-extended c =
+    let f = c.before.before.before in
+    let a = f.before.args in
+    placed a.extended true a.code f.table-index.result f.table-index.ensures c.if-extended.true c.if-at-ge96.false
+
+pub returns : goal.returns
+unfolding places if◌then◌else◌
+returns c =
+    let f = c.before.before.before in
+    let a = f.before.args in
+    placed a.extended false a.code f.table-index.result f.table-index.ensures c.if-extended.false c.if-at-ge96.false

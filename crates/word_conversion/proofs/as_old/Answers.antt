@@ -1,0 +1,14 @@
+-- The proof of `word_conversion::as_old`.
+-- Assumes nothing.
+use mathlib.Core.Path.{sym}
+use Rattle.word.proofs.Laws.{other_word_stays}
+use borrow.Author.Rules.{rules}
+use Rattle.word_conversion.proofs.as_old.Goals as goal
+
+pub returns-then-high-low : goal.returns-then-high-low
+returns-then-high-low c = c.converted.ensures
+
+pub returns : goal.returns
+returns c =
+    let bytes = c.before in
+    sym (other_word_stays bytes.before.before.args.word (rw (← bytes.low.ensures, ← bytes.before.high.ensures) c.if-high-low.false))
