@@ -9,7 +9,7 @@ use Rattle.port_modifiers.proofs.changed.Goals as goal
 
 pub returns-then-not-is_named : goal.returns-then-not-is_named
 returns-then-not-is_named c =
-    c.result.ensures ∙ sym (unnamed _ _ _ (sym c.is_named.ensures ∙ not_holds _ c.if-not-is_named.true))
+    c.result.ensures ∙ sym (unnamed _ _ _ (sym c.is_named.ensures ∙ c.if-not-is_named.true))
 
 pub returns-then-is-down : goal.returns-then-is-down
 unfolding flags_changed if◌then◌else◌

@@ -18,8 +18,7 @@ bounds-at c = omega (arith, index_below c.args.column, c.index-at.ensures)
 pub returns-then-row-lt78 : goal.returns-then-row-lt78
 unfolding table if◌then◌else◌
 returns-then-row-lt78 c =
-    let f = c.before.before in
-    c.entry_of.ensures ∙ in_rows f.before.before.args.place f.before.index.result f.before.before.args.column f.before.index.ensures f.if1.true
+    c.entry_of.ensures ∙ in_rows c.args.place c.index-at.result c.args.column c.index-at.ensures c.if-row-lt78.true
 
 pub offset_bounds-row-at-then-row-lt92 : goal.offset_bounds-row-at-then-row-lt92
 offset_bounds-row-at-then-row-lt92 c = omega (arith, index_below c.args.column, c.index-at.ensures)
@@ -30,8 +29,7 @@ bounds-at-then-row-lt92 c = omega (arith, index_below c.args.column, c.index-at.
 pub returns-then-row-lt92 : goal.returns-then-row-lt92
 unfolding table if◌then◌else◌
 returns-then-row-lt92 c =
-    let f = c.before.before.before in
-    c.entry_of-then-row-lt92.ensures ∙ in_extended_rows f.before.before.args.place f.before.index.result f.before.before.args.column f.before.index.ensures f.if1.false c.if-row-lt92.true
+    c.entry_of-then-row-lt92.ensures ∙ in_extended_rows c.args.place c.index-at.result c.args.column c.index-at.ensures c.if-row-lt78.false c.if-row-lt92.true
 
 pub returns : goal.returns
 unfolding cell_of if◌then◌else◌

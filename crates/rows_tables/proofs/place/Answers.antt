@@ -15,13 +15,11 @@ returns-then-at-ge96 c = simp (← c.table_index-at.ensures, le-ltb _ _ c.if-at-
 pub returns-then-extended : goal.returns-then-extended
 unfolding places if◌then◌else◌
 returns-then-extended c =
-    let f = c.before.before.before in
-    let a = f.before.args in
-    placed a.extended true a.code f.table-index.result f.table-index.ensures c.if-extended.true c.if-at-ge96.false
+    let a = c.args in
+    placed a.extended true a.code c.table_index-at.result c.table_index-at.ensures c.if-extended.true c.if-at-ge96.false
 
 pub returns : goal.returns
 unfolding places if◌then◌else◌
 returns c =
-    let f = c.before.before.before in
-    let a = f.before.args in
-    placed a.extended false a.code f.table-index.result f.table-index.ensures c.if-extended.false c.if-at-ge96.false
+    let a = c.args in
+    placed a.extended false a.code c.table_index-at.result c.table_index-at.ensures c.if-extended.false c.if-at-ge96.false

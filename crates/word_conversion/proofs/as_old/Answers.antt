@@ -10,5 +10,4 @@ returns-then-high-low c = c.converted.ensures
 
 pub returns : goal.returns
 returns c =
-    let bytes = c.before in
-    sym (other_word_stays bytes.before.before.args.word (rw (← bytes.low.ensures, ← bytes.before.high.ensures) c.if-high-low.false))
+    sym (other_word_stays c.args.word (rw (← c.low.ensures, ← c.high.ensures) c.if-high-low.false))

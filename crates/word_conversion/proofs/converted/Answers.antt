@@ -15,32 +15,20 @@ returns-then-has_bytes c = simp (c.from_number.ensures, sym c.has_bytes.ensures 
 pub returns-then-has_bytes-2 : goal.returns-then-has_bytes-2
 unfolding old_word_of if◌then◌else◌
 returns-then-has_bytes-2 c =
-    let f = c.before.before.before in
-    simp (c.from_number-then-has_bytes-2.ensures, sym c.has_bytes-2.ensures ∙ c.if-has_bytes-2.true, sym f.before.has-bytes.ensures ∙ f.if1.false)
+    simp (c.from_number-then-has_bytes-2.ensures, sym c.has_bytes-2.ensures ∙ c.if-has_bytes-2.true, sym c.has_bytes.ensures ∙ c.if-has_bytes.false)
 
 pub returns-then-has_bytes-3 : goal.returns-then-has_bytes-3
 unfolding old_word_of if◌then◌else◌
 returns-then-has_bytes-3 c =
-    let g = c.before.before.before in
-    let f = g.before.before in
-    simp (c.from_number-then-has_bytes-3.ensures, sym c.has_bytes-3.ensures ∙ c.if-has_bytes-3.true, sym g.before.has-bytes2.ensures ∙ g.if2.false, sym f.before.has-bytes.ensures ∙ f.if1.false)
+    simp (c.from_number-then-has_bytes-3.ensures, sym c.has_bytes-3.ensures ∙ c.if-has_bytes-3.true, sym c.has_bytes-2.ensures ∙ c.if-has_bytes-2.false, sym c.has_bytes.ensures ∙ c.if-has_bytes.false)
 
 pub returns-then-high-low : goal.returns-then-high-low
 unfolding old_word_of if◌then◌else◌
 returns-then-high-low c =
-    let made = c.before.before in
-    let bytes = made.before.before in
-    let h = bytes.before.before in
-    let g = h.before.before in
-    let f = g.before.before in
-    simp (c.joined.ensures, c.ascii_byte.ensures, made.scan-code.ensures, ← bytes.low.ensures, ← bytes.before.high.ensures, made.before.if4.true, sym h.before.has-bytes3.ensures ∙ h.if3.false, sym g.before.has-bytes2.ensures ∙ g.if2.false, sym f.before.has-bytes.ensures ∙ f.if1.false)
-    (ap (λ (high : ℕ). word_with (code_of high) (ascii_of 0x00)) bytes.before.high.ensures)
+    simp (c.joined.ensures, c.ascii_byte.ensures, c.scan_code.ensures, ← c.low.ensures, ← c.high-high.ensures, c.if-high-low.true, sym c.has_bytes-3.ensures ∙ c.if-has_bytes-3.false, sym c.has_bytes-2.ensures ∙ c.if-has_bytes-2.false, sym c.has_bytes.ensures ∙ c.if-has_bytes.false)
+    (ap (λ (high : ℕ). word_with (code_of high) (ascii_of 0x00)) c.high-high.ensures)
 
 pub returns : goal.returns
 unfolding old_word_of if◌then◌else◌
 returns c =
-    let bytes = c.before in
-    let h = bytes.before.before in
-    let g = h.before.before in
-    let f = g.before.before in
-    simp (← bytes.low.ensures, ← bytes.before.high.ensures, c.if-high-low.false, sym h.before.has-bytes3.ensures ∙ h.if3.false, sym g.before.has-bytes2.ensures ∙ g.if2.false, sym f.before.has-bytes.ensures ∙ f.if1.false)
+    simp (← c.low.ensures, ← c.high-high.ensures, c.if-high-low.false, sym c.has_bytes-3.ensures ∙ c.if-has_bytes-3.false, sym c.has_bytes-2.ensures ∙ c.if-has_bytes-2.false, sym c.has_bytes.ensures ∙ c.if-has_bytes.false)
