@@ -70,13 +70,13 @@ pub none_shown : (answer : Answer) → Silent answer → bytes_in answer ≡ 0
 unfolding if◌then◌else◌
 none_shown answer h = simp h.silent
 
-pub bytes_of_line : (answer : LineAnswer) (taken : Answer) → Silent taken → bytes_in (line_answer answer taken) ≡ sends_by answer
+pub bytes_of_line : (answer : LineAnswer) (when_taken : Answer) → Silent when_taken → bytes_in (line_answer answer when_taken) ≡ sends_by answer
 unfolding if◌then◌else◌
-bytes_of_line (line-answer.Send byte) taken h = refl
-bytes_of_line line-answer.Quiet taken h = refl
-bytes_of_line line-answer.Taken taken h = none_shown taken h
-bytes_of_line line-answer.Ignored taken h = refl
-bytes_of_line line-answer.GivenUp taken h = refl
+bytes_of_line (line-answer.Send byte) when_taken h = refl
+bytes_of_line line-answer.Quiet when_taken h = refl
+bytes_of_line line-answer.Taken when_taken h = none_shown when_taken h
+bytes_of_line line-answer.Ignored when_taken h = refl
+bytes_of_line line-answer.GivenUp when_taken h = refl
 
 -- what neither polls nor restarts the line nor hands it a rate leaves it as it is or brings it a reply; it sends no byte, and shows the line's count
 pub data Beside (line : Line) (outcome : Outcome) : Type 0 where
@@ -95,9 +95,9 @@ pub data Gives (service : Service) (event : Event) (outcome : Outcome) : Type 0 
 
 -- ---- replies
 
-module _ (line : Line) (taken : Answer) (h : Silent taken) where
+module _ (line : Line) (when_taken : Answer) (h : Silent when_taken) where
   abbrev SilentAs : LineOutcome → Type 0
-  SilentAs outcome = Silent (line_answer outcome.answer taken)
+  SilentAs outcome = Silent (line_answer outcome.answer when_taken)
 
   acknowledge_silent : SilentAs (reply.acknowledge_of line)
   unfolding unchanged_of
@@ -111,7 +111,7 @@ acknowledge_beside : (service : Service) → Beside service.line (acknowledge_of
 unfolding acknowledge_of on_line
 acknowledge_beside service =
     let taken : Silent Taken = record { silent = refl } in
-    replies acknowledge tt refl refl (bytes_of_line (reply.acknowledge_of service.line).answer Taken taken) (acknowledge_silent service.line Taken taken)
+    replies acknowledge tt refl refl (bytes_of_line (reply.acknowledge_of service.line).answer Taken taken) (acknowledge_silent service.line Taken when_taken)
 
 resend_beside : (service : Service) → Beside service.line (resend_of service)
 unfolding resend_of on_line reply.resend_of

@@ -123,17 +123,17 @@ effect_tells event service effect.Break w = record { told = broken_told event (w
 effect_tells event service effect.RestartAsked w = record { told = same service.queue w (record { words = λ _. refl; fits = λ _. tt }) }
 effect_tells event service effect.Overrun w = record { told = same service.queue w (record { words = λ _. refl; fits = λ _. tt }) }
 
-line_idle : (event : Event) (answer : LineAnswer) (taken : Answer) → Idle event taken → Idle event (line_answer answer taken)
-line_idle event (line-answer.Send byte) taken h = record { words = λ _. refl; fits = λ _. tt }
-line_idle event line-answer.Quiet taken h = record { words = λ _. refl; fits = λ _. tt }
-line_idle event line-answer.Taken taken h = h
-line_idle event line-answer.Ignored taken h = record { words = λ _. refl; fits = λ _. tt }
-line_idle event line-answer.GivenUp taken h = record { words = λ _. refl; fits = λ _. tt }
+line_idle : (event : Event) (answer : LineAnswer) (when_taken : Answer) → Idle event when_taken → Idle event (line_answer answer when_taken)
+line_idle event (line-answer.Send byte) when_taken h = record { words = λ _. refl; fits = λ _. tt }
+line_idle event line-answer.Quiet when_taken h = record { words = λ _. refl; fits = λ _. tt }
+line_idle event line-answer.Taken when_taken h = h
+line_idle event line-answer.Ignored when_taken h = record { words = λ _. refl; fits = λ _. tt }
+line_idle event line-answer.GivenUp when_taken h = record { words = λ _. refl; fits = λ _. tt }
 
-line_tells : (event : Event) (service : Service) (after : LineOutcome) (taken : Answer) → Idle event taken → Whole service.queue
-    → Tells event (words_of service.queue) (on_line service after taken)
+line_tells : (event : Event) (service : Service) (after : LineOutcome) (when_taken : Answer) → Idle event when_taken → Whole service.queue
+    → Tells event (words_of service.queue) (on_line service after when_taken)
 unfolding on_line
-line_tells event service after taken h w = record { told = same service.queue w (line_idle event after.answer taken h) }
+line_tells event service after when_taken h w = record { told = same service.queue w (line_idle event after.answer when_taken h) }
 
 typed_tells : (event : Event) (device : Device) (service : Service) (byte : ℕ) → Whole service.queue
     → Tells event (words_of service.queue) (typed_of device service byte)

@@ -71,12 +71,12 @@ accept_oldest : (returned : Word → Word) (oldest : Oldest) → Accepts (oldest
 accept_oldest returned None = record { low = refl }
 accept_oldest returned (Is word) = record { low = refl }
 
-accept_line : (answer : LineAnswer) (taken : Answer) → Accepts taken → Accepts (line_answer answer taken)
-accept_line (line-answer.Send byte) taken h = record { low = refl }
-accept_line line-answer.Quiet taken h = record { low = refl }
-accept_line line-answer.Taken taken h = h
-accept_line line-answer.Ignored taken h = record { low = refl }
-accept_line line-answer.GivenUp taken h = record { low = refl }
+accept_line : (answer : LineAnswer) (when_taken : Answer) → Accepts when_taken → Accepts (line_answer answer when_taken)
+accept_line (line-answer.Send byte) when_taken h = record { low = refl }
+accept_line line-answer.Quiet when_taken h = record { low = refl }
+accept_line line-answer.Taken when_taken h = h
+accept_line line-answer.Ignored when_taken h = record { low = refl }
+accept_line line-answer.GivenUp when_taken h = record { low = refl }
 
 -- an outcome that is no refusal
 abbrev Accepted : Outcome → Type 0
@@ -94,9 +94,9 @@ typed_accepted : (device : Device) (service : Service) (byte : ℕ) → Accepted
 unfolding typed_of
 typed_accepted device service byte = effect_accepted _ (key_byte_of (port_of device service.ports) service.shared byte).effect
 
-line_accepted : (service : Service) (after : LineOutcome) (taken : Answer) → Accepts taken → Accepted (on_line service after taken)
+line_accepted : (service : Service) (after : LineOutcome) (when_taken : Answer) → Accepts when_taken → Accepted (on_line service after when_taken)
 unfolding on_line
-line_accepted service after taken h = accept_line after.answer taken h
+line_accepted service after when_taken h = accept_line after.answer when_taken h
 
 acknowledge_accepted : (service : Service) → Accepted (acknowledge_of service)
 unfolding acknowledge_of

@@ -227,7 +227,8 @@ module _ {locks : Locks} where
   keys_settle : {codes : Codes} {scans : List ℕ} (service : Service) (keys : List ℕ) → Ahead locks codes (translation codes keys) scans (kept_of service)
       → Ahead locks (codes_after codes keys) [] scans (kept_of (after service (map Key keys)))
   keys_settle service [] ahead = ahead
-  keys_settle service (byte ∷ keys) ahead = keys_settle (next service (Key byte)) keys (key_ahead service byte keys ahead)
+  keys_settle {codes = codes} {scans = scans} service (byte ∷ keys) ahead =
+      keys_settle {codes = (translated_of codes byte).codes} {scans = scans} (next service (Key byte)) keys (key_ahead service byte keys ahead)
 
   scans_settle : {codes : Codes} (service : Service) (scans : List ℕ) → Ahead locks codes [] scans (kept_of service)
       → Ahead locks codes [] [] (kept_of (after service (map Scan scans)))
@@ -240,7 +241,8 @@ module _ {locks : Locks} where
   both_settle [] service keys scans ahead =
       rw (after_append service (map Key keys) (map Scan scans)) (scans_settle (after service (map Key keys)) scans (keys_settle service keys ahead))
   both_settle (Keyboard ∷ turns) service [] scans ahead = both_settle turns service [] scans ahead
-  both_settle (Keyboard ∷ turns) service (byte ∷ keys) scans ahead = both_settle turns (next service (Key byte)) keys scans (key_ahead service byte keys ahead)
+  both_settle {codes = codes} (Keyboard ∷ turns) service (byte ∷ keys) scans ahead =
+      both_settle {codes = (translated_of codes byte).codes} turns (next service (Key byte)) keys scans (key_ahead service byte keys ahead)
   both_settle (Scanner ∷ turns) service keys [] ahead = both_settle turns service keys [] ahead
   both_settle (Scanner ∷ turns) service keys (byte ∷ scans) ahead = both_settle turns (next service (Scan byte)) keys scans (scan_ahead service byte _ ahead)
 
