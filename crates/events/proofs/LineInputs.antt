@@ -111,7 +111,7 @@ acknowledge_beside : (service : Service) → Beside service.line (acknowledge_of
 unfolding acknowledge_of on_line
 acknowledge_beside service =
     let taken : Silent Taken = record { silent = refl } in
-    replies acknowledge tt refl refl (bytes_of_line (reply.acknowledge_of service.line).answer Taken taken) (acknowledge_silent service.line Taken when_taken)
+    replies acknowledge tt refl refl (bytes_of_line (reply.acknowledge_of service.line).answer Taken taken) (acknowledge_silent service.line Taken taken)
 
 resend_beside : (service : Service) → Beside service.line (resend_of service)
 unfolding resend_of on_line reply.resend_of
