@@ -8,8 +8,8 @@ use Rattle.image.specs.ImageQueue.{word_image}
 use Rattle.image.proofs.Mapped.{mixed, mixed_next, mixed_end}
 use Rattle.image_from_service.proofs.queue_part.word_images.Given as goal
 
--- abbrev invariant-loop : tie.invariant-loop
--- invariant-loop words images₀ place₀ images place = (place ≤ 16) × (images ≡ mixed word_image place words images₀)
+abbrev pub invariant-loop-place : goal.invariant-loop-place
+invariant-loop-place l = (l.place ≤ 16) × (l.images ≡ mixed word_image l.place l.words l.initial.images)
 
--- abbrev decreases-loop : tie.decreases-loop
--- decreases-loop words images₀ place₀ images place = 16 - place
+abbrev pub decreases-loop-place : goal.decreases-loop-place
+decreases-loop-place l = 16 - l.place

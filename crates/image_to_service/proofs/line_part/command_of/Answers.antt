@@ -4,4 +4,4 @@ use borrow.Author.Rules.{rules}
 use Rattle.image_to_service.proofs.line_part.command_of.Goals as goal
 
 pub returns : goal.returns
-returns c = simp (c.at_most-2.ensures, ← c.at_most.ensures, ← c.value_of_lem.ensures, ← c.kind_of.ensures)
+returns c = simp (c.at_most-2.ensures, ← c.at_most.ensures, ← c.value_of.ensures, ← c.kind_of.ensures)

@@ -8,8 +8,8 @@ use Rattle.image.specs.ImageQueue.{word_at_image}
 use Rattle.image.proofs.Mapped.{mixed, mixed_next, mixed_end}
 use Rattle.image_to_service.proofs.queue_part.words_of.Given as goal
 
--- abbrev invariant-loop : tie.invariant-loop
--- invariant-loop images words₀ place₀ words place = (place ≤ 16) × (words ≡ mixed word_at_image place images words₀)
+abbrev pub invariant-loop-place : goal.invariant-loop-place
+invariant-loop-place l = (l.place ≤ 16) × (l.words ≡ mixed word_at_image l.place l.images l.initial.words)
 
--- abbrev decreases-loop : tie.decreases-loop
--- decreases-loop images words₀ place₀ words place = 16 - place
+abbrev pub decreases-loop-place : goal.decreases-loop-place
+decreases-loop-place l = 16 - l.place
