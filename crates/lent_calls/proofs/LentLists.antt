@@ -2,6 +2,9 @@
 -- Assumes nothing.
 use Prim.Native.Nat.{ℕ, ◌≤◌}
 use mathlib.Core.Path.{◌≡◌, refl, ap, sym, ◌∙◌}
+use native.Mathlib.Omega.{arith}
+use Rattle.bits.proofs.Bytes.{byte_most}
+use Rattle.state.specs.Flags.{byte17_of}
 use mathlib.Core.List.{List, [], ◌∷◌, ◌++◌, append_assoc}
 use Rattle.translation.specs.declared.CodeSet.{CodeSet}
 use Rattle.state.specs.declared.Service.{Service}
@@ -13,7 +16,6 @@ use Rattle.events.specs.Commands.{restart_of}
 use Rattle.events.specs.Run.{after}
 use Rattle.events.specs.Resynchronised.{all_up, set_in, standing_locks, remade}
 use Rattle.events.proofs.Lists.{after_append}
-use Rattle.events.proofs.Resynchronised.{locks_most}
 use Rattle.lists.specs.Items.{Item, runs, reports, receives, changes, at_port, Seen, step_item, next_item, after_items, seen_items}
 use Rattle.lists.proofs.Demand3.{demand_3}
 use Rattle.lent_calls.specs.declared.Tried.{Tried}
@@ -47,6 +49,11 @@ resynchronised_as_fed service =
     (ap (after service) (sym (append_assoc run (Empty ∷ []) (Restart ∷ []))) ∙ after_append service (run ++ (Empty ∷ [])) (Restart ∷ []))
 
 -- ---- from a service made on
+
+-- whatever the service, its locks are four bits
+locks_most : (service : Service) → standing_locks service ≤ 15
+unfolding byte17_of
+locks_most service = let most : byte17_of service ≤ 255 = byte_most _ _ _ _ _ _ _ _ in omega arith
 
 made_new : (set : CodeSet) (service : Service) (locks : ℕ) → locks ≤ 15 → made set service locks ≡ new_service set locks
 made_new set service locks most = ap (λ (tried : Tried). tried.service) (makes.made set service locks most)

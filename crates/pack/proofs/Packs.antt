@@ -97,6 +97,7 @@ pack_is_read_whole pack =
 
 -- where reading stops with no refusal, there is the end
 ended : (found : Read) → Stops found → refusal_of found ≡ 0 → found ≡ read.End
+ended (read.Event _ _) none e = elim none [ ]
 ended read.End none e = refl
 ended read.UnknownTag none e = absurd (omega arith)
 ended read.CutShort none e = absurd (omega arith)

@@ -94,6 +94,7 @@ no_event read.Beyond other = tt
 
 -- a part with no event is handed on as it is
 pub kept : (found : Read) (part : List ℕ) → Stops found → rest_of found part ≡ part
+kept (read.Event _ _) part none = elim none [ ]
 kept read.End part none = refl
 kept read.UnknownTag part none = refl
 kept read.CutShort part none = refl

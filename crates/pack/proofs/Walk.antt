@@ -27,6 +27,7 @@ by_kind read.TooLong goes stops = stops tt
 by_kind read.Beyond goes stops = stops tt
 
 on_stop : (found : Read) (start : ℕ) (from : ℕ → Parsed) → Stops found → on_read found start from ≡ stopped start (refusal_of found)
+on_stop (read.Event _ _) start from none = elim none [ ]
 on_stop read.End start from none = refl
 on_stop read.UnknownTag start from none = refl
 on_stop read.CutShort start from none = refl
