@@ -31,6 +31,7 @@ rest_within read.TooLong part = omega arith
 rest_within read.Beyond part = omega arith
 
 pub stops_there : (pack : List ℕ) (start : ℕ) (found : Read) → Stops found → reading_from pack start found ≡ stopped_at start (refusal_of found)
+stops_there pack start (read.Event _ _) none = elim none [ ]
 stops_there pack start read.End none = refl
 stops_there pack start read.UnknownTag none = refl
 stops_there pack start read.CutShort none = refl

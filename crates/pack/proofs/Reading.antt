@@ -83,9 +83,9 @@ part_within pack start small = simp (le-ltb limit (length pack) small)
 pub part_beyond : (pack : List ℕ) (start : ℕ) → length pack ≤ limit → length pack < start → part_at pack start ≡ []
 part_beyond pack start small beyond = part_within pack start small ∙ drop_of_length-le pack {i = start} (omega arith)
 
--- the variants after the first are no event
-pub no_event : (found : Read) → OneOf (1 ∷ 2 ∷ 3 ∷ 4 ∷ 5 ∷ []) (tag_of declared.the_type found) → Stops found
-no_event (read.Event event bytes) other = miss (1 ∷ 2 ∷ 3 ∷ 4 ∷ 5 ∷ []) 0 tt other
+-- what is not the first variant is no event
+pub no_event : (found : Read) → ((event : Event) (bytes : ℕ) → found ≡ read.Event event bytes → ⊥) → Stops found
+no_event (read.Event event bytes) other = absurd (other event bytes refl)
 no_event read.End other = tt
 no_event read.UnknownTag other = tt
 no_event read.CutShort other = tt

@@ -73,7 +73,7 @@ record ReadOn (n offset end : ℕ) : Type 0 where
 read_on : (n : ℕ) (pack : List ℕ) (service : Service) (offset : ℕ) → (lines_by n pack service offset).place.ended ≡ false
     → ReadOn n offset (lines_by n pack service offset).place.offset
 unfolding lines_by
-read_on zero pack service offset goes = record { on = omega arith; within = λ h. h; some = λ h. absurd (omega arith); keeps = search rules; rests = λ h. search rules }
+read_on zero pack service offset goes = record { on = omega arith; within = λ h. h; some = λ h. absurd (omega arith) }
 read_on (suc n) pack service offset goes =
     by_kind (read_at pack offset)
     (λ event bytes e.

@@ -36,6 +36,7 @@ lines_event n pack service offset event bytes e = rw e
 
 on_stop : (found : Read) (service : Service) (offset : ℕ) (from : Service → ℕ → Lines) → Stops found
     → lines_on found service offset from ≡ text_then (closing_of offset (refusal_of found)) (none_at (ended_at service offset))
+on_stop (read.Event _ _) service offset from none = elim none [ ]
 on_stop read.End service offset from none = rw append-nil
 on_stop read.UnknownTag service offset from none = rw append-nil
 on_stop read.CutShort service offset from none = rw append-nil

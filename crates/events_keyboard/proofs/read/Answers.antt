@@ -12,4 +12,4 @@ pub returns-then-byte-eq254 : goal.returns-then-byte-eq254
 returns-then-byte-eq254 c = simp c.resend.ensures (fe_read c.args.device c.args.service c.args.byte (ne_eqb _ _ c.if-byte-eq250.false) (eq-eqb _ _ c.if-byte-eq254.true))
 
 pub returns : goal.returns
-returns c = simp c.type-inv.ensures (key_read c.args.device c.args.service c.args.byte (ne_eqb _ _ c.if-byte-eq250.false) (ne_eqb _ _ c.if-byte-eq254.false))
+returns c = simp c.typed.ensures (key_read c.args.device c.args.service c.args.byte (ne_eqb _ _ c.if-byte-eq250.false) (ne_eqb _ _ c.if-byte-eq254.false))
