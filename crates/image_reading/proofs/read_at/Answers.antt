@@ -14,17 +14,13 @@ pub returns-in_default : goal.returns-in_default
 returns-in_default c =
     let a = c.args in
     let found = c.read_event-read in
-    rw (c.refusal.ensures, ← found.ensures) (sym (stops_there a.pack.now a.start found.result (no_event found.result c.in_default.in_default-own.keys2)))
+    rw (c.refusal.ensures, ← found.ensures) (sym (stops_there a.pack.now a.start found.result (no_event found.result c.in_default.not-Event)))
 
 -- the event that was found
-
-event_read : (c : tie.After-read) → let a = c.before.before.before.before.args in read_at a.pack.now a.start ≡ read.Event c.read.given.0.0 c.read.given.0.1.0
-event_read c = sym c.before.before.read-event.ensures ∙ c.read.given.1
-
 pub next_start-requires : goal.next_start-requires
-next_start-requires c = omega (arith, (event_at _ _ _ _ (event_read c.before)).within)
+next_start-requires c = omega (arith, (event_at _ _ _ _ (sym c.read_event-read.ensures ∙ c.in-Event.is)).within)
 
 pub returns : goal.returns
 returns c =
-    let e = event_read c.before.before.before in
+    let e = sym c.read_event-read.ensures ∙ c.in-Event.is in
     rw (c.tagged_of.ensures, c.next_start.ensures, event_there _ _ _ _ e, e)
