@@ -1,0 +1,35 @@
+-- The proof of `image_over_event::report`.
+-- Assumes nothing.
+use mathlib.Core.Path.{◌≡◌, ◌∙◌}
+use native.Mathlib.Omega.{arith}
+use Rattle.image_calls.specs.Exports.{recognised, is_unknown}
+use Rattle.image_calls.proofs.Events.{named, unknown_report, short_report, long_report}
+use borrow.Author.Rules.{rules}
+use Rattle.image_over_event.proofs.report.Goals as goal
+
+pub shape_of-buffer : goal.shape_of-buffer
+shape_of-buffer c = search rules
+
+-- whether the tag is unknown
+
+unknown : (c : tie.After-is-unknown) → is_unknown (recognised c.before.before.before.args.tagged) ≡ c.is-unknown.result
+unknown c = rw (c.is-unknown.ensures, c.before.recognise.ensures)
+
+pub returns-then-is_unknown : goal.returns-then-is_unknown
+returns-then-is_unknown c =
+    let a = c.args in
+    let made = unknown_report a.image a.tagged a.buffer.now (recognised a.tagged) (unknown c.before ∙ c.if-is_unknown.true) in
+    (made.result, made.writes)
+
+pub returns-then-buffer-lt-LENGTH : goal.returns-then-buffer-lt-LENGTH
+returns-then-buffer-lt-LENGTH c =
+    let a = c.args in
+    let made = short_report a.image a.tagged a.buffer.now (recognised a.tagged) (unknown c.before.before ∙ c.if-is_unknown.false) (omega arith) in
+    (made.result, made.writes)
+
+pub returns : goal.returns
+returns c =
+    let a = c.args in
+    let copied = c.event_on_copy-changed.ensures in
+    let made = long_report a.image a.tagged a.buffer.now (recognised a.tagged) (unknown c.before.before.before.before.before.before.before.before.before.before.before ∙ c.if-is_unknown.false) (named a.tagged) (omega (arith, c.if-buffer-lt-LENGTH.false)) in
+    (rw (c.refusal.ensures, copied) made.result, rw (c.write.ensures, c.report_of.ensures, copied) made.writes)
