@@ -7,29 +7,24 @@ use Rattle.image_calls.proofs.Events.{named, unknown_report, short_report, long_
 use borrow.Author.Rules.{rules}
 use Rattle.image_over_event.proofs.report.Goals as goal
 
-pub shape_of-buffer : goal.shape_of-buffer
-shape_of-buffer c = search rules
-
--- whether the tag is unknown
-
-unknown : (c : tie.After-is-unknown) → is_unknown (recognised c.before.before.before.args.tagged) ≡ c.is-unknown.result
-unknown c = rw (c.is-unknown.ensures, c.before.recognise.ensures)
-
 pub returns-then-is_unknown : goal.returns-then-is_unknown
 returns-then-is_unknown c =
     let a = c.args in
-    let made = unknown_report a.image a.tagged a.buffer.now (recognised a.tagged) (unknown c.before ∙ c.if-is_unknown.true) in
+    let unknown : is_unknown (recognised a.tagged) ≡ c.is_unknown.result = rw (c.is_unknown.ensures, c.recognise.ensures) in
+    let made = unknown_report a.image a.tagged a.buffer.now (recognised a.tagged) (unknown ∙ c.if-is_unknown.true) in
     (made.result, made.writes)
 
 pub returns-then-buffer-lt-LENGTH : goal.returns-then-buffer-lt-LENGTH
 returns-then-buffer-lt-LENGTH c =
     let a = c.args in
-    let made = short_report a.image a.tagged a.buffer.now (recognised a.tagged) (unknown c.before.before ∙ c.if-is_unknown.false) (omega arith) in
+    let unknown : is_unknown (recognised a.tagged) ≡ c.is_unknown.result = rw (c.is_unknown.ensures, c.recognise.ensures) in
+    let made = short_report a.image a.tagged a.buffer.now (recognised a.tagged) (unknown ∙ c.if-is_unknown.false) (omega arith) in
     (made.result, made.writes)
 
 pub returns : goal.returns
 returns c =
     let a = c.args in
+    let unknown : is_unknown (recognised a.tagged) ≡ c.is_unknown.result = rw (c.is_unknown.ensures, c.recognise.ensures) in
     let copied = c.event_on_copy-changed.ensures in
-    let made = long_report a.image a.tagged a.buffer.now (recognised a.tagged) (unknown c.before.before.before.before.before.before.before.before.before.before.before ∙ c.if-is_unknown.false) (named a.tagged) (omega (arith, c.if-buffer-lt-LENGTH.false)) in
+    let made = long_report a.image a.tagged a.buffer.now (recognised a.tagged) (unknown ∙ c.if-is_unknown.false) (named a.tagged) (omega (arith, c.if-buffer-lt-LENGTH.false)) in
     (rw (c.refusal.ensures, copied) made.result, rw (c.write.ensures, c.report_of.ensures, copied) made.writes)
