@@ -40,7 +40,7 @@ fn close_at(service: Service, end: u16, refusal: u8, text: &mut [u8], at: usize)
     ensures text_after { text.new ≡ take at text.old ++ (closing_of end refusal ++ drop (at + 19) text.old) }
 {
     let lines = closing(end, refusal);
-    bytes::copy(&lines, &mut text[at..]);
+    text[at..at + CLOSING].copy_from_slice(&lines);
     let place = Place {
         service,
         offset: end,

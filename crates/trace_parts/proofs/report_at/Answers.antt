@@ -1,0 +1,24 @@
+-- The proof of `trace_parts::report_at`.
+-- Assumes nothing.
+use Rattle.report.specs.Text.{text_of}
+use Rattle.trace.proofs.Writing.{part_placed}
+use native.Mathlib.Omega.{arith}
+use lib.ListN.{length, drop, length-drop}
+use borrow.Author.Tests.{le-ltb}
+use Rattle.bits.specs.Choice.{if◌then◌else◌}
+use Rattle.report.specs.Reported.{event_report, reported_of, written_of, buffer_of}
+use Rattle.lent_calls.specs.Lent.{reported_in}
+use Rattle.pack.proofs.Reading.{to_end}
+use borrow.Author.Rules.{rules}
+use Rattle.trace_parts.proofs.report_at.Goals as goal
+
+pub returns : goal.returns
+unfolding reported_in reported_of written_of buffer_of if◌then◌else◌
+returns c =
+    let a = c.args in
+    let enough = le-ltb (length (drop a.at a.text.now)) 44 (simp length-drop (omega arith)) in
+    record {
+      value = simp (c.report_on_copy-tried.ensures.0, to_end, enough);
+      text_after =
+          simp (c.report_on_copy-tried.ensures.1, to_end, enough) (part_placed a.at 44 (text_of (event_report a.service a.event)) a.text.now);
+    }
