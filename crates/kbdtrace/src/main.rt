@@ -1,20 +1,25 @@
 // Reads a pack on standard input and writes its trace. What cannot be done is told in one line on standard error.
 #![tactic(auto)]
 
-use libc::{STDERR_FILENO, STDIN_FILENO};
+use std::{env, io};
 use trace_file::Traced;
 
-fn main() {
-    if 1 < os::arg_count() {
-        io::write_all(
-            STDERR_FILENO,
-            b"kbdtrace: takes no argument, reads a pack on standard input\n",
-        );
-        return;
+// Whether anything stands behind the program's name, be it text or not.
+fn has_arguments(rt: &HostRuntime) -> io::Result<bool> {
+    match env::args(rt) {
+        Ok(arguments) => Ok(1 < arguments.count()),
+        Err(error) if error.kind() == io::ErrorKind::InvalidData => Ok(true),
+        Err(error) => Err(error),
     }
-    match trace_file::write_trace(STDIN_FILENO) {
-        Traced::Whole => {}
-        Traced::NotRead => os::fail(b"kbdtrace: cannot read standard input"),
-        Traced::NotWritten => os::fail(b"kbdtrace: cannot write standard output"),
+}
+
+fn main(rt: HostRuntime) -> io::Result<()> {
+    if has_arguments(&rt)? {
+        return eprintln!(rt; "kbdtrace: takes no argument, reads a pack on standard input");
+    }
+    match trace_file::write_trace(&mut rt.stdin(), &mut rt.stdout()) {
+        Traced::Whole => Ok(()),
+        Traced::NotRead(error) => eprintln!(rt; "kbdtrace: cannot read standard input: {error}"),
+        Traced::NotWritten(error) => eprintln!(rt; "kbdtrace: cannot write standard output: {error}"),
     }
 }

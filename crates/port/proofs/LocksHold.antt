@@ -3,7 +3,7 @@
 use Prim.Native.Nat.{ℕ}
 use mathlib.Core.Path.{◌≡◌, refl}
 use mathlib.Core.Bool.{Bool, true, false, ◌&&◌, not}
-use lib.Dec.{T, eqb, eqb→eq}
+use lib.Dec.{T, eqb→eq}
 use borrow.Author.Tests.{ne_eqb}
 use Rattle.bits.specs.Bits.{toggle}
 use Rattle.bits.specs.Choice.{if◌then◌else◌}

@@ -2,7 +2,7 @@
 -- Assumes nothing.
 use Prim.Native.Nat.{ℕ}
 use mathlib.Core.Path.{◌≡◌, refl, ap, ◌∙◌}
-use mathlib.Core.Bool.{true, false, ◌||◌, true≢false}
+use mathlib.Core.Bool.{false, ◌||◌, true≢false}
 use lib.Dec.{eqb}
 use Rattle.bits.specs.Choice.{if◌then◌else◌}
 use Rattle.port.specs.declared.Prefix.{Prefix}

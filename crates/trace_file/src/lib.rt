@@ -1,28 +1,22 @@
-// The trace of the pack in an open file, on standard output: what the programs share.
+// The trace of the pack that a reader gives, to a writer: what the programs share.
 #![tactic(auto)]
 
-ghost use Rattle.std.specs.Prelude.{◌≡◌, ◌+◌, ◌≤◌, length};
+ghost use Rattle.std.specs.Prelude.{◌≡◌, ◌+◌, ◌≤◌, length, IfOk};
 ghost use Rattle.pack.specs.Reading.{limit};
 ghost use Rattle.trace.specs.Parts.{part_length};
 
-use libc::STDOUT_FILENO;
+use std::io;
+use std::io::{Read, Write};
 
 // One byte more than a pack may have, so that a longer one is seen to be too long.
 const INPUT: usize = pack_reading::LIMIT + 1;
 
-// What came of a trace: written whole, or a read or a write failed, and errno says why.
-#[derive(Clone, Copy)]
+// What came of a trace: written whole, or a read or a write failed, and the error says why.
+#[derive(Drop)]
 pub enum Traced {
     Whole,
-    NotRead,
-    NotWritten,
-}
-
-// What was read of a file: how many of its bytes stand in the buffer, and whether a read failed.
-#[derive(Clone, Copy)]
-struct Got {
-    length: usize,
-    failed: bool,
+    NotRead(io::Error),
+    NotWritten(io::Error),
 }
 
 fn input() -> [u8; INPUT]
@@ -37,52 +31,48 @@ fn output() -> [u8; trace::PART]
     [0; trace::PART]
 }
 
-// Reads a file on to its end. What it writes over is not looked at: a pack this long is refused whole.
-fn drain(file: i32, pack: &mut [u8]) -> bool {
+// Reads on to the end. What it writes over is not looked at: a pack this long is refused whole.
+fn drain<R: Read>(reader: &mut R, pack: &mut [u8]) -> io::Result<()> {
     let mut reads = usize::MAX;
     while 0 < reads {
-        let got = libc::read(file, pack);
-        if got <= 0 {
-            return got == 0;
+        if reader.read(pack)? == 0 {
+            return Ok(());
         }
         reads -= 1;
     }
-    true
+    Ok(())
 }
 
-// Reads a file to its end or to a read that fails.
-fn read_pack(file: i32, pack: &mut [u8]) -> Got
-    ensures { result.length ≤ length pack.new }
+// Reads to the end or to a read that fails. How many bytes of the buffer the pack has.
+fn read_pack<R: Read>(reader: &mut R, pack: &mut [u8]) -> io::Result<usize>
+    ensures { IfOk result (λ count. count ≤ length pack.new) }
 {
-    let mut length: usize = 0;
-    while length < pack.len() {
-        let got = libc::read(file, &mut pack[length..]);
-        let bytes = io::count(got, &pack[length..]);
+    let mut count: usize = 0;
+    while count < pack.len() {
+        let bytes = reader.read(&mut pack[count..])?;
         if bytes == 0 {
-            let failed = got < 0;
-            return Got { length, failed };
+            return Ok(count);
         }
-        length += bytes;
+        count += bytes;
     }
-    let failed = !drain(file, pack);
-    Got { length, failed }
+    drain(reader, pack)?;
+    Ok(count)
 }
 
-// Nothing is written before the pack is read to its end, so that a failed read leaves standard output empty.
-pub fn write_trace(file: i32) -> Traced {
+// Nothing is written before the pack is read to its end, so that a failed read leaves the writer as it was.
+pub fn write_trace<R: Read, W: Write>(reader: &mut R, writer: &mut W) -> Traced {
     let mut pack = input();
-    let got = read_pack(file, &mut pack);
-    if got.failed {
-        return Traced::NotRead;
-    }
-    let length = got.length;
+    let length = match read_pack(reader, &mut pack) {
+        Ok(count) => count,
+        Err(error) => return Traced::NotRead(error),
+    };
     let mut text = output();
     let mut place = trace::begin();
     while !place.ended {
         let part = trace_parts::next_part(&pack[..length], place, &mut text);
         let printed = part.length;
-        if !io::write_all(STDOUT_FILENO, &text[..printed]) {
-            return Traced::NotWritten;
+        if let Err(error) = writer.write_all(&text[..printed]) {
+            return Traced::NotWritten(error);
         }
         place = part.place;
     }

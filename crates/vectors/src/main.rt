@@ -1,30 +1,27 @@
 // Writes the trace of each pack that an argument names, under a line with that name.
 #![tactic(auto)]
 
-use libc::STDOUT_FILENO;
+use std::fs::File;
+use std::{env, io};
 use trace_file::Traced;
 
 // The line of one argument and the trace of the file that it names.
-fn write_named(argument: usize) {
-    let mut name = io::buffer();
-    let length = os::arg(argument, &mut name);
-    let file = os::open_read(&name[..length]);
-    if file < 0 {
-        os::fail(&name[..length]);
-        return;
+fn write_named(rt: &HostRuntime, name: &str) -> io::Result<()> {
+    let mut file = match File::open(rt, name) {
+        Ok(file) => file,
+        Err(error) => return eprintln!(rt; "{name}: {error}"),
+    };
+    println!(rt; "{name}")?;
+    match trace_file::write_trace(&mut file, &mut rt.stdout()) {
+        Traced::Whole => Ok(()),
+        Traced::NotRead(error) => eprintln!(rt; "{name}: {error}"),
+        Traced::NotWritten(error) => eprintln!(rt; "standard output: {error}"),
     }
-    io::write_all(STDOUT_FILENO, &name[..length]);
-    io::write_all(STDOUT_FILENO, &[b'\n']);
-    match trace_file::write_trace(file) {
-        Traced::Whole => {}
-        Traced::NotRead => os::fail(&name[..length]),
-        Traced::NotWritten => os::fail(b"standard output"),
-    }
-    libc::close(file);
 }
 
-fn main() {
-    for argument in 1..os::arg_count() {
-        write_named(argument);
+fn main(rt: HostRuntime) -> io::Result<()> {
+    for name in env::args(&rt)?.skip(1) {
+        write_named(&rt, name.as_str())?;
     }
+    Ok(())
 }

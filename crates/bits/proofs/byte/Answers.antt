@@ -1,7 +1,6 @@
 -- The proof of `bits::byte`.
 -- Assumes nothing.
 use Rattle.bits.specs.Bits.{byte_of}
-use borrow.Author.Rules.{rules}
 use Rattle.bits.proofs.byte.Goals as goal
 
 pub returns : goal.returns

@@ -5,7 +5,6 @@ use mathlib.Core.Path.{◌≡◌, ap, sym, ◌∙◌}
 use native.Mathlib.Omega.{arith}
 use Rattle.bits.specs.Choice.{if◌then◌else◌}
 use Rattle.digits.specs.Digits.{character_of, digit_of}
-use borrow.Author.Rules.{rules}
 use Rattle.digits.proofs.digit.Goals as goal
 
 -- an arm's character is the digit of the number

@@ -1,6 +1,5 @@
 -- The proof of `digits::high`.
 -- Assumes nothing.
-use borrow.Author.Rules.{rules}
 use Rattle.digits.proofs.high.Goals as goal
 
 pub returns : goal.returns

@@ -1,7 +1,6 @@
 -- The proof of `line::is_led`.
 -- Assumes nothing.
 use Rattle.line.specs.State.{is_led_of}
-use borrow.Author.Rules.{rules}
 use Rattle.line.proofs.is_led.Goals as goal
 
 pub returns-in-Led : goal.returns-in-Led

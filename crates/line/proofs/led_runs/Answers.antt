@@ -1,7 +1,6 @@
 -- The proof of `line::led_runs`.
 -- Assumes nothing.
 use Rattle.line.specs.State.{led_runs_of, led_runs_in}
-use borrow.Author.Rules.{rules}
 use Rattle.line.proofs.led_runs.Goals as goal
 
 pub returns-in-Idle : goal.returns-in-Idle

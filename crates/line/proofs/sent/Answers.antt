@@ -1,7 +1,6 @@
 -- The proof of `line::sent`.
 -- Assumes nothing.
 use Rattle.line.specs.State.{sent_of, sent_in}
-use borrow.Author.Rules.{rules}
 use Rattle.line.proofs.sent.Goals as goal
 
 pub returns-in-Idle : goal.returns-in-Idle

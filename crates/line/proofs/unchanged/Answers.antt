@@ -1,7 +1,6 @@
 -- The proof of `line::unchanged`.
 -- Assumes nothing.
 use Rattle.line.specs.State.{unchanged_of}
-use borrow.Author.Rules.{rules}
 use Rattle.line.proofs.unchanged.Goals as goal
 
 pub returns : goal.returns

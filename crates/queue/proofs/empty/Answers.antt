@@ -1,7 +1,6 @@
 -- The proof of `queue::empty`.
 -- Assumes nothing.
 use Rattle.queue.specs.Queue.{empty_queue}
-use borrow.Author.Rules.{rules}
 use Rattle.queue.proofs.empty.Goals as goal
 
 pub returns : goal.returns

@@ -2,7 +2,6 @@
 -- Assumes nothing.
 use native.Mathlib.Omega.{arith}
 use Rattle.queue.proofs.Calls.{oldest_none, oldest_some}
-use borrow.Author.Rules.{rules}
 use Rattle.queue.proofs.first.Goals as goal
 
 pub returns-then-queue-eq0 : goal.returns-then-queue-eq0

@@ -1,10 +1,7 @@
 -- The proof of `queue::past_enhanced`.
 -- Assumes nothing.
-use mathlib.Core.Path.{◌≡◌, refl, sym, ◌∙◌}
+use mathlib.Core.Path.{refl, sym, ◌∙◌}
 use native.Mathlib.Omega.{arith}
-use borrow.Author.Rules.{rules}
-use Rattle.queue.specs.Queue.{held_in}
-use Rattle.queue.specs.Enhanced.{past_enhanced}
 use Rattle.queue.proofs.Past.{one_fewer, past_one, past_end}
 use Rattle.queue.proofs.past_enhanced.Goals as goal
 

@@ -1,11 +1,8 @@
 -- The proof of `queue::past_enhanced`.
 -- Assumes nothing.
-use mathlib.Core.Path.{◌≡◌, refl, sym, ◌∙◌}
-use native.Mathlib.Omega.{arith}
-use borrow.Author.Rules.{rules}
+use mathlib.Core.Path.{◌≡◌}
 use Rattle.queue.specs.Queue.{held_in}
 use Rattle.queue.specs.Enhanced.{past_enhanced}
-use Rattle.queue.proofs.Past.{one_fewer, past_one, past_end}
 use Rattle.queue.proofs.past_enhanced.Given as goal
 
 abbrev pub invariant-loop-seen : goal.invariant-loop-seen

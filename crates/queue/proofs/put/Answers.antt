@@ -2,7 +2,6 @@
 -- Assumes nothing.
 use native.Mathlib.Omega.{arith}
 use Rattle.queue.proofs.Calls.{put_room, put_full}
-use borrow.Author.Rules.{rules}
 use Rattle.queue.proofs.put.Goals as goal
 
 pub returns-then-count-ge-CAPACITY : goal.returns-then-count-ge-CAPACITY

@@ -2,7 +2,6 @@
 -- Assumes nothing.
 use native.Mathlib.Omega.{arith}
 use Rattle.queue.proofs.Calls.{rest_none, rest_some}
-use borrow.Author.Rules.{rules}
 use Rattle.queue.proofs.rest.Goals as goal
 
 pub returns-then-count-eq0 : goal.returns-then-count-eq0

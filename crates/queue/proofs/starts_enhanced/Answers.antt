@@ -1,6 +1,5 @@
 -- The proof of `queue::starts_enhanced`.
 -- Assumes nothing.
-use borrow.Author.Rules.{rules}
 use Rattle.queue.proofs.starts_enhanced.Goals as goal
 
 pub returns-in-None : goal.returns-in-None

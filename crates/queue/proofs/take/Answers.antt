@@ -1,7 +1,6 @@
 -- The proof of `queue::take`.
 -- Assumes nothing.
 use Rattle.queue.specs.Queue.{take_of}
-use borrow.Author.Rules.{rules}
 use Rattle.queue.proofs.take.Goals as goal
 
 pub returns : goal.returns

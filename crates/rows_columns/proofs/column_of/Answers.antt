@@ -2,7 +2,6 @@
 -- Assumes nothing.
 use Rattle.bits.specs.Choice.{if◌then◌else◌}
 use Rattle.rows.specs.Column.{column_of}
-use borrow.Author.Rules.{rules}
 use Rattle.rows_columns.proofs.column_of.Goals as goal
 
 pub returns-then-selector : goal.returns-then-selector

@@ -1,6 +1,5 @@
 -- The proof of `rows_columns::is_letter`.
 -- Assumes nothing.
-use borrow.Author.Rules.{rules}
 use Rattle.rows_columns.proofs.is_letter.Goals as goal
 
 pub returns : goal.returns

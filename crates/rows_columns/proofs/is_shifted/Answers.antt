@@ -2,7 +2,6 @@
 -- Assumes nothing.
 use Rattle.bits.specs.Choice.{if◌then◌else◌}
 use Rattle.rows.specs.Column.{is_shifted}
-use borrow.Author.Rules.{rules}
 use Rattle.rows_columns.proofs.is_shifted.Goals as goal
 
 pub returns-then-is_letter : goal.returns-then-is_letter

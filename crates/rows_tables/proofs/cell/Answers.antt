@@ -6,7 +6,6 @@ use borrow.Author.Tests.{le-ltb}
 use Rattle.rows_tables.specs.Layout.{cell_of, table}
 use native.Mathlib.Omega.{arith}
 use Rattle.rows_tables.proofs.Table.{index_below, in_rows, in_extended_rows}
-use borrow.Author.Rules.{rules}
 use Rattle.rows_tables.proofs.cell.Goals as goal
 
 pub offset_bounds-row-at : goal.offset_bounds-row-at

@@ -2,7 +2,6 @@
 -- Assumes nothing.
 use Rattle.bits.specs.Choice.{if◌then◌else◌}
 use borrow.Author.Tests.{eq-eqb, ne_eqb}
-use borrow.Author.Rules.{rules}
 use Rattle.rows_tables.proofs.entry_of.Goals as goal
 
 pub returns-then-number-eq0 : goal.returns-then-number-eq0

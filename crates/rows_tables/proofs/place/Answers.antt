@@ -5,7 +5,6 @@ use mathlib.Core.Bool.{true, false}
 use Rattle.rows_tables.proofs.Table.{placed}
 use borrow.Author.Tests.{le-ltb}
 use Rattle.rows_tables.specs.Layout.{place_of, places}
-use borrow.Author.Rules.{rules}
 use Rattle.rows_tables.proofs.place.Goals as goal
 
 pub returns-then-at-ge96 : goal.returns-then-at-ge96

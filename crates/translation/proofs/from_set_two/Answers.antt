@@ -3,7 +3,6 @@
 use Rattle.bits.specs.Choice.{if◌then◌else◌}
 use Rattle.translation.specs.Translation.{from_set_two}
 use borrow.Author.Tests.{eq-eqb, ne_eqb}
-use borrow.Author.Rules.{rules}
 use Rattle.translation.proofs.from_set_two.Goals as goal
 
 pub returns-then-byte-eq240 : goal.returns-then-byte-eq240

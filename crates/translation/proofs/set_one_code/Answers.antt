@@ -6,7 +6,6 @@ use Rattle.translation.specs.Translation.{set_one_code}
 use Rattle.translation.specs.Table.{table}
 use Rattle.translation.proofs.Lines.{in_lines_lem}
 use borrow.Author.Tests.{le-ltb, lt-ltb, ne_eqb}
-use borrow.Author.Rules.{rules}
 use Rattle.translation.proofs.set_one_code.Goals as goal
 
 pub returns-then-code-lt128 : goal.returns-then-code-lt128

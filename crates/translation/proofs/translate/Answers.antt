@@ -1,7 +1,6 @@
 -- The proof of `translation::translate`.
 -- Assumes nothing.
 use Rattle.translation.specs.Translation.{translated_of}
-use borrow.Author.Rules.{rules}
 use Rattle.translation.proofs.translate.Goals as goal
 
 pub returns-in-SetOne : goal.returns-in-SetOne

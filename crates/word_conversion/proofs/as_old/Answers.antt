@@ -2,7 +2,6 @@
 -- Assumes nothing.
 use mathlib.Core.Path.{sym}
 use Rattle.word.proofs.Laws.{other_word_stays}
-use borrow.Author.Rules.{rules}
 use Rattle.word_conversion.proofs.as_old.Goals as goal
 
 pub returns-then-high-low : goal.returns-then-high-low

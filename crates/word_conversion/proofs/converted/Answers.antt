@@ -5,7 +5,6 @@ use Prim.Native.Nat.{ℕ}
 use Rattle.bits.specs.Choice.{if◌then◌else◌}
 use Rattle.word.specs.Word.{code_of, ascii_of, word_with}
 use Rattle.word.specs.OldWord.{old_word_of}
-use borrow.Author.Rules.{rules}
 use Rattle.word_conversion.proofs.converted.Goals as goal
 
 pub returns-then-has_bytes : goal.returns-then-has_bytes

@@ -1,6 +1,5 @@
 -- The proof of `word_conversion::has_bytes`.
 -- Assumes nothing.
-use borrow.Author.Rules.{rules}
 use Rattle.word_conversion.proofs.has_bytes.Goals as goal
 
 pub returns : goal.returns
