@@ -20,6 +20,8 @@ fn main(rt: HostRuntime) -> io::Result<()> {
     match trace_file::write_trace(&mut rt.stdin(), &mut rt.stdout()) {
         Traced::Whole => Ok(()),
         Traced::NotRead(error) => eprintln!(rt; "kbdtrace: cannot read standard input: {error}"),
-        Traced::NotWritten(error) => eprintln!(rt; "kbdtrace: cannot write standard output: {error}"),
+        Traced::NotWritten(error) => eprintln!(rt;
+            "kbdtrace: cannot write standard output: {error}"
+        ),
     }
 }

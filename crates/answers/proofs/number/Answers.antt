@@ -1,6 +1,5 @@
 -- The proof of `answers::number`.
 -- Assumes nothing.
-use borrow.Author.Rules.{rules}
 use Rattle.answers.proofs.number.Goals as goal
 
 pub returns-in-Refused : goal.returns-in-Refused

@@ -1,6 +1,5 @@
 -- The proof of `answers::refused`.
 -- Assumes nothing.
-use borrow.Author.Rules.{rules}
 use Rattle.answers.proofs.refused.Goals as goal
 
 pub returns-in-Function : goal.returns-in-Function

@@ -1,6 +1,5 @@
 -- The proof of `answers::refused_frame`.
 -- Assumes nothing.
-use borrow.Author.Rules.{rules}
 use Rattle.answers.proofs.refused_frame.Goals as goal
 
 pub returns-in-Start : goal.returns-in-Start

@@ -1,6 +1,5 @@
 -- The proof of `answers::refused_port`.
 -- Assumes nothing.
-use borrow.Author.Rules.{rules}
 use Rattle.answers.proofs.refused_port.Goals as goal
 
 pub returns-in-Busy : goal.returns-in-Busy

@@ -1,6 +1,5 @@
 -- The proof of `answers::word`.
 -- Assumes nothing.
-use borrow.Author.Rules.{rules}
 use Rattle.answers.proofs.word.Goals as goal
 
 pub returns-in-Put : goal.returns-in-Put

@@ -1,6 +1,5 @@
 -- The proof of `controller::status`.
 -- Assumes nothing.
-use borrow.Author.Rules.{rules}
 use Rattle.controller.specs.State.{status_of}
 use Rattle.controller.proofs.status.Goals as goal
 

@@ -1,7 +1,6 @@
 -- The proof of `controller_events::disabled`.
 -- Assumes nothing.
 use borrow.Author.Tests.{eq-eqb, ne_eqb}
-use borrow.Author.Rules.{rules}
 use Rattle.bits.specs.Choice.{if◌then◌else◌}
 use Rattle.controller.specs.PortEvents.{disabled_of}
 use Rattle.controller_events.proofs.disabled.Goals as goal

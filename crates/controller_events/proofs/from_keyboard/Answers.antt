@@ -3,7 +3,6 @@
 use borrow.Author.Tests.{eq-eqb, ne_eqb}
 use Rattle.bits.specs.Choice.{if◌then◌else◌}
 use Rattle.controller.specs.PortEvents.{from_keyboard_of}
-use borrow.Author.Rules.{rules}
 use Rattle.controller_events.proofs.from_keyboard.Goals as goal
 
 pub returns-then-full-controller : goal.returns-then-full-controller

@@ -1,7 +1,6 @@
 -- The proof of `controller_events::read_60`.
 -- Assumes nothing.
 use Rattle.controller.specs.PortEvents.{read60_of}
-use borrow.Author.Rules.{rules}
 use Rattle.controller_events.proofs.read_60.Goals as goal
 
 pub returns-in-Empty : goal.returns-in-Empty

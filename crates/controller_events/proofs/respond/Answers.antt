@@ -1,7 +1,6 @@
 -- The proof of `controller_events::respond`.
 -- Assumes nothing.
 use Rattle.controller.specs.PortEvents.{responded_of}
-use borrow.Author.Rules.{rules}
 use Rattle.controller_events.proofs.respond.Goals as goal
 
 pub returns-in-FromKeyboard : goal.returns-in-FromKeyboard

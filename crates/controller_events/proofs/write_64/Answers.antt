@@ -1,6 +1,5 @@
 -- The proof of `controller_events::write_64`.
 -- Assumes nothing.
-use borrow.Author.Rules.{rules}
 use borrow.Author.Tests.{ne_eqb}
 use Rattle.bits.specs.Choice.{if◌then◌else◌}
 use Rattle.controller.specs.PortEvents.{write64_of}
