@@ -1,7 +1,6 @@
 -- The proof of `line_polling::counted`.
 -- Assumes nothing.
 use Rattle.line.specs.Poll.{counted_of}
-use borrow.Author.Rules.{rules}
 use Rattle.line_polling.proofs.counted.Goals as goal
 
 pub returns : goal.returns

@@ -1,7 +1,6 @@
 -- The proof of `line_polling::first`.
 -- Assumes nothing.
 use Rattle.line.specs.Poll.{first_of}
-use borrow.Author.Rules.{rules}
 use Rattle.line_polling.proofs.first.Goals as goal
 
 pub returns-in-Nothing : goal.returns-in-Nothing

@@ -1,7 +1,6 @@
 -- The proof of `line_polling::first_byte`.
 -- Assumes nothing.
 use Rattle.line.specs.Poll.{first_byte_of}
-use borrow.Author.Rules.{rules}
 use Rattle.line_polling.proofs.first_byte.Goals as goal
 
 pub returns-in-Led : goal.returns-in-Led

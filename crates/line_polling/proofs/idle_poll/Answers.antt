@@ -1,7 +1,6 @@
 -- The proof of `line_polling::idle_poll`.
 -- Assumes nothing.
 use Rattle.line.specs.Poll.{idle_poll_of, start_next_of}
-use borrow.Author.Rules.{rules}
 use Rattle.line_polling.proofs.idle_poll.Goals as goal
 
 pub returns-in-Nothing : goal.returns-in-Nothing

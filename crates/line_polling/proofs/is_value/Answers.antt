@@ -1,7 +1,6 @@
 -- The proof of `line_polling::is_value`.
 -- Assumes nothing.
 use Rattle.line.specs.State.{is_value_of}
-use borrow.Author.Rules.{rules}
 use Rattle.line_polling.proofs.is_value.Goals as goal
 
 pub returns-in-None : goal.returns-in-None

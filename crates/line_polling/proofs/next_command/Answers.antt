@@ -1,7 +1,6 @@
 -- The proof of `line_polling::next_command`.
 -- Assumes nothing.
 use Rattle.line.specs.Poll.{in_turn_of, next_of}
-use borrow.Author.Rules.{rules}
 use Rattle.line_polling.proofs.next_command.Goals as goal
 
 pub returns-in-Led : goal.returns-in-Led

@@ -3,7 +3,6 @@
 use Rattle.bits.specs.Choice.{if◌then◌else◌}
 use Rattle.line.specs.Poll.{one_more_of}
 use borrow.Author.Tests.{le-ltb, lt-ltb}
-use borrow.Author.Rules.{rules}
 use Rattle.line_polling.proofs.one_more.Goals as goal
 
 pub returns-then-count-most : goal.returns-then-count-most

@@ -1,7 +1,6 @@
 -- The proof of `line_polling::poll`.
 -- Assumes nothing.
 use Rattle.line.specs.Poll.{poll_of, poll_in}
-use borrow.Author.Rules.{rules}
 use Rattle.line_polling.proofs.poll.Goals as goal
 
 pub returns-in-Idle : goal.returns-in-Idle

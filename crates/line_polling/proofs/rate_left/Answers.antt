@@ -1,7 +1,6 @@
 -- The proof of `line_polling::rate_left`.
 -- Assumes nothing.
 use Rattle.line.specs.Poll.{rate_left_of}
-use borrow.Author.Rules.{rules}
 use Rattle.line_polling.proofs.rate_left.Goals as goal
 
 pub returns-in-Led : goal.returns-in-Led

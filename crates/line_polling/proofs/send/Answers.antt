@@ -1,7 +1,6 @@
 -- The proof of `line_polling::send`.
 -- Assumes nothing.
 use Rattle.line.specs.Poll.{send_of}
-use borrow.Author.Rules.{rules}
 use Rattle.line_polling.proofs.send.Goals as goal
 
 pub returns : goal.returns

@@ -1,7 +1,6 @@
 -- The proof of `line_polling::start`.
 -- Assumes nothing.
 use Rattle.line.specs.Poll.{start_of}
-use borrow.Author.Rules.{rules}
 use Rattle.line_polling.proofs.start.Goals as goal
 
 pub returns : goal.returns

@@ -2,7 +2,6 @@
 -- Assumes nothing.
 use Rattle.bits.specs.Choice.{if◌then◌else◌}
 use Rattle.line.specs.Poll.{unhandled_of}
-use borrow.Author.Rules.{rules}
 use Rattle.line_polling.proofs.unhandled.Goals as goal
 
 pub returns-then-is_value : goal.returns-then-is_value

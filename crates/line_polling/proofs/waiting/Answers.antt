@@ -1,7 +1,6 @@
 -- The proof of `line_polling::waiting`.
 -- Assumes nothing.
 use Rattle.line.specs.Poll.{waiting_of}
-use borrow.Author.Rules.{rules}
 use Rattle.line_polling.proofs.waiting.Goals as goal
 
 pub returns-in-None : goal.returns-in-None

@@ -1,7 +1,6 @@
 -- The proof of `line_replies::acknowledge`.
 -- Assumes nothing.
 use Rattle.line.specs.Reply.{acknowledge_of, reply_in}
-use borrow.Author.Rules.{rules}
 use Rattle.line_replies.proofs.acknowledge.Goals as goal
 
 pub returns-in-Idle : goal.returns-in-Idle

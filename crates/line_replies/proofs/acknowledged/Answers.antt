@@ -2,7 +2,6 @@
 -- Assumes nothing.
 use Rattle.bits.specs.Choice.{if◌then◌else◌}
 use Rattle.line.specs.Reply.{acknowledged_of}
-use borrow.Author.Rules.{rules}
 use Rattle.line_replies.proofs.acknowledged.Goals as goal
 
 pub returns-then-command : goal.returns-then-command

@@ -3,7 +3,6 @@
 use Rattle.bits.specs.Choice.{if◌then◌else◌}
 use Rattle.line.specs.Reply.{ended_of}
 use Rattle.line.proofs.Cases.{after_led, after_rate}
-use borrow.Author.Rules.{rules}
 use Rattle.line_replies.proofs.ended.Goals as goal
 
 pub returns-then-is_led : goal.returns-then-is_led

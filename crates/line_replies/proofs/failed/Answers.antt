@@ -3,7 +3,6 @@
 use Rattle.bits.specs.Choice.{if◌then◌else◌}
 use Rattle.line.specs.Reply.{failed_of}
 use borrow.Author.Tests.{le-ltb, lt-ltb}
-use borrow.Author.Rules.{rules}
 use Rattle.line_replies.proofs.failed.Goals as goal
 
 pub returns-then-command-lt3 : goal.returns-then-command-lt3

@@ -2,7 +2,6 @@
 -- Assumes nothing.
 use Rattle.bits.specs.Choice.{if◌then◌else◌}
 use Rattle.line.specs.Reply.{mark_done_of}
-use borrow.Author.Rules.{rules}
 use Rattle.line_replies.proofs.mark_done.Goals as goal
 
 pub returns-then-is_led : goal.returns-then-is_led

@@ -1,7 +1,6 @@
 -- The proof of `line_replies::mark_resend`.
 -- Assumes nothing.
 use Rattle.line.specs.Reply.{mark_resend_of}
-use borrow.Author.Rules.{rules}
 use Rattle.line_replies.proofs.mark_resend.Goals as goal
 
 pub returns : goal.returns

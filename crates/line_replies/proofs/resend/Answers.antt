@@ -1,7 +1,6 @@
 -- The proof of `line_replies::resend`.
 -- Assumes nothing.
 use Rattle.line.specs.Reply.{resend_of, reply_in}
-use borrow.Author.Rules.{rules}
 use Rattle.line_replies.proofs.resend.Goals as goal
 
 pub returns-in-Idle : goal.returns-in-Idle

@@ -1,7 +1,6 @@
 -- The proof of `line_replies::time_out`.
 -- Assumes nothing.
 use Rattle.line.specs.Reply.{time_out_of, reply_in}
-use borrow.Author.Rules.{rules}
 use Rattle.line_replies.proofs.time_out.Goals as goal
 
 pub returns-in-Idle : goal.returns-in-Idle

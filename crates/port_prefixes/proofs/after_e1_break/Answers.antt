@@ -3,7 +3,6 @@
 use borrow.Author.Tests.{eq-eqb, ne_eqb}
 use Rattle.bits.specs.Choice.{if◌then◌else◌}
 use Rattle.port.specs.Prefix.{continued}
-use borrow.Author.Rules.{rules}
 use Rattle.port_prefixes.proofs.after_e1_break.Goals as goal
 
 pub returns-then-byte : goal.returns-then-byte

@@ -3,7 +3,6 @@
 use Rattle.port.specs.Prefix.{opened}
 use Rattle.bits.specs.Choice.{if◌then◌else◌}
 use borrow.Author.Tests.{eq-eqb, ne_eqb}
-use borrow.Author.Rules.{rules}
 use Rattle.port_prefixes.proofs.opening.Goals as goal
 
 pub returns-then-byte-eq224 : goal.returns-then-byte-eq224

@@ -2,7 +2,6 @@
 -- Assumes nothing.
 use Rattle.bits.specs.Choice.{if◌then◌else◌}
 use Rattle.port.specs.Prefix.{reading_of, continued}
-use borrow.Author.Rules.{rules}
 use Rattle.port_prefixes.proofs.read.Goals as goal
 
 pub returns-then-byte : goal.returns-then-byte
