@@ -6,7 +6,7 @@ use native.Mathlib.Omega.{arith}
 use mathlib.Core.Path.{◌≡◌, refl, sym}
 use mathlib.Core.Bool.{Bool, true, false}
 use lib.Dec.{eqb}
-use Rattle.bits.specs.Choice.{if◌then◌else◌}
+use Rattle.bits.specs.Choice.{when◌then◌else◌}
 use Rattle.bits.specs.Bits.{weight_of, byte_of, bit0, bit1, bit2, bit3, bit4, bit5, bit6, bit7}
 
 -- a bit's digit, 0 or 1
@@ -14,17 +14,17 @@ abbrev pub digit : Bool → ℕ
 digit bit = weight_of bit 1
 
 digit_most : (bit : Bool) → digit bit ≤ 1
-unfolding weight_of if◌then◌else◌
+unfolding weight_of when◌then◌else◌
 digit_most true = omega arith
 digit_most false = omega arith
 
 weighed : (bit : Bool) (power : ℕ) → weight_of bit power ≡ power * digit bit
-unfolding weight_of if◌then◌else◌
+unfolding weight_of when◌then◌else◌
 weighed true power = sym (mul-one power)
 weighed false power = sym (mul-zero power)
 
 pub digit_read : (bit : Bool) (number : ℕ) → number ≡ digit bit → eqb number 1 ≡ bit
-unfolding weight_of if◌then◌else◌
+unfolding weight_of when◌then◌else◌
 digit_read true number is = rw is
 digit_read false number is = rw is
 
@@ -94,13 +94,13 @@ module _ (b0 b1 b2 b3 b4 b5 b6 b7 : Bool) where
 
 -- a byte whose upper half is the lower half of a number
 digit_of_lem : (number : ℕ) → number ≤ 1 → digit (eqb number 1) ≡ number
-unfolding weight_of if◌then◌else◌
+unfolding weight_of when◌then◌else◌
 digit_of_lem zero most = refl
 digit_of_lem (suc zero) most = refl
 digit_of_lem (suc (suc number)) most = absurd (not-suc-le-zero (le_of_suc-le-suc most))
 
 pub lower_half_raised : (number : ℕ) → byte_of false false false false (bit0 number) (bit1 number) (bit2 number) (bit3 number) ≡ 16 * (number % 16)
-unfolding weight_of if◌then◌else◌
+unfolding weight_of when◌then◌else◌
 lower_half_raised number =
     let digits : Spelt false false false false (bit0 number) (bit1 number) (bit2 number) (bit3 number) = spelt _ _ _ _ _ _ _ _ in
     let at0 : digit (bit0 number) ≡ number % 2 = digit_of_lem (number % 2) (omega arith) in

@@ -2,7 +2,7 @@
 -- Assumes nothing.
 use Rattle.std.specs.Prelude.{ℕ, ◌+◌, ◌/◌, ◌%◌, ◌≤◌, Bool, true, false, not, ◌≡◌, eqb}
 use Rattle.std.specs.Bool.{beq}
-use Rattle.bits.specs.Choice.{if◌then◌else◌}
+use Rattle.bits.specs.Choice.{when◌then◌else◌}
 
 abbrev pub exactly_one : Bool → Bool → Bool
 exactly_one a b = not (beq a b)
@@ -14,8 +14,8 @@ toggle false bit = bit
 
 -- a bit's share of its byte
 unfoldable pub weight_of : Bool → ℕ → ℕ
-unfolding if◌then◌else◌
-weight_of bit power = if bit then power else 0
+unfolding when◌then◌else◌
+weight_of bit power = when bit then power else 0
 
 -- the same as a promise, with the bound by which the sum of a byte fits
 pub record Weight (bit : Bool) (power r : ℕ) : Type 0 where

@@ -4,7 +4,7 @@ use Prim.Native.Nat.{ℕ}
 use mathlib.Core.Path.{◌≡◌, refl, ap}
 use mathlib.Core.Bool.{Bool, true, false}
 use mathlib.Core.Logic.{inl, inr}
-use Rattle.bits.specs.Choice.{if◌then◌else◌}
+use Rattle.bits.specs.Choice.{when◌then◌else◌}
 use Rattle.bits.specs.Bits.{weight_of, byte_of, bit0, bit4}
 use Rattle.bits.proofs.Choice.{either, by_test}
 use Rattle.controller.specs.State.{is_full, status_of}
@@ -82,7 +82,7 @@ only_keys_interrupt controller event e =
 -- ---- the status
 
 one_of_four : (full commanded : Bool) → OneOfFour (byte_of full false true commanded true false false false)
-unfolding byte_of weight_of if◌then◌else◌
+unfolding byte_of weight_of when◌then◌else◌
 one_of_four false false = inl refl
 one_of_four true false = inr (inl refl)
 one_of_four false true = inr (inr (inl refl))
@@ -96,8 +96,8 @@ status_is_one_of_four controller = one_of_four (is_full controller.buffer) contr
 
 pub accepts : (controller : Controller) (byte : ℕ) → is_full controller.buffer ≡ false → bit4 controller.command ≡ false
     → responded_of controller (FromKeyboard byte)
-    ≡ responds (holding controller (buffer.Key byte)) (if bit0 controller.command then Interrupt else Accepted)
-unfolding responded_of from_keyboard_of if◌then◌else◌
+    ≡ responds (holding controller (buffer.Key byte)) (when bit0 controller.command then Interrupt else Accepted)
+unfolding responded_of from_keyboard_of when◌then◌else◌
 accepts controller byte empty enabled = simp (empty, enabled)
 
 pub key_read_at_once : KeyReadAtOnce

@@ -1,7 +1,7 @@
 -- What the controller guarantees; crate `lists` has it over lists with all that they can hold. Each sentence is proved in proofs/.
 -- Assumes nothing.
 use Rattle.std.specs.Prelude.{ℕ, ◌/◌, ◌%◌, ◌≡◌, Bool, true, false, List, [], ◌∷◌, ◌⊎◌}
-use Rattle.bits.specs.Choice.{if◌then◌else◌}
+use Rattle.bits.specs.Choice.{when◌then◌else◌}
 use Rattle.bits.specs.Bits.{bit0, bit4}
 use Rattle.controller.specs.State.{new_controller, is_full, status_of}
 use Rattle.controller.specs.PortEvents.{responds, holding, disabled_of, enabled_of, responded_of}
@@ -29,7 +29,7 @@ StatusIsOneOfFour = (controller : Controller) → OneOfFour (status_of controlle
 
 -- a keyboard byte that is accepted and read at once is fed, and nothing of it stays but the last byte
 pub record ReadAtOnce (controller : Controller) (byte : ℕ) : Type 0 where
-  pub accepted : (responded_of controller (FromKeyboard byte)).response ≡ (if bit0 controller.command then Interrupt else Accepted)
+  pub accepted : (responded_of controller (FromKeyboard byte)).response ≡ (when bit0 controller.command then Interrupt else Accepted)
   pub fed : responded_of (responded_of controller (FromKeyboard byte)).controller Read60 ≡ responds (holding controller (buffer.Empty byte)) (Key byte)
   pub once : responded_of (holding controller (buffer.Empty byte)) Read60 ≡ responds (holding controller (buffer.Empty byte)) (Byte byte)
 

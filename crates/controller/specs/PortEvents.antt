@@ -1,7 +1,7 @@
 -- Document 02, W-207: the five port events.
 -- Assumes nothing.
 use Rattle.std.specs.Prelude.{ℕ, ◌+◌, ◌-◌, Bool, false, true, ◌||◌, eqb}
-use Rattle.bits.specs.Choice.{if◌then◌else◌}
+use Rattle.bits.specs.Choice.{when◌then◌else◌}
 use Rattle.bits.specs.Bits.{bit0, bit4}
 use Rattle.controller.specs.State.{is_full, status_of}
 use Rattle.controller.specs.declared.Buffer.{Buffer}
@@ -35,8 +35,8 @@ holding controller buffer =
 -- from the keyboard: 14 while the buffer is full or bit 4 of the command byte is on; the interrupt comes at this moment, by bit 0, or never
 unfoldable pub from_keyboard_of : Controller → ℕ → Responded
 from_keyboard_of controller byte =
-    if is_full controller.buffer || bit4 controller.command then responds controller (Refused Busy)
-    else responds (holding controller (buffer.Key byte)) (if bit0 controller.command then Interrupt else Accepted)
+    when is_full controller.buffer || bit4 controller.command then responds controller (Refused Busy)
+    else responds (holding controller (buffer.Key byte)) (when bit0 controller.command then Interrupt else Accepted)
 
 -- reading 60: the buffer is emptied, and only a key has to be fed; an empty one gives the byte that was read last
 unfoldable pub read60_of : Controller → Buffer → Responded
@@ -47,16 +47,16 @@ read60_of controller (buffer.Answer byte) = responds (holding controller (buffer
 -- writing to 60: the command byte, or 16 where none is awaited
 unfoldable pub write60_of : Controller → ℕ → Responded
 write60_of controller byte =
-    if controller.awaiting then
+    when controller.awaiting then
     responds (record { buffer = controller.buffer; command = byte; awaiting = false; commanded = false }) Accepted
     else responds controller (Refused Unawaited)
 
 -- AD and AE: bit 4 of the command byte is on, and off
 unfoldable pub disabled_of : ℕ → ℕ
-disabled_of command = if bit4 command then command else command + 16
+disabled_of command = when bit4 command then command else command + 16
 
 unfoldable pub enabled_of : ℕ → ℕ
-enabled_of command = if bit4 command then command - 16 else command
+enabled_of command = when bit4 command then command - 16 else command
 
 -- writing to 64: 20 and AA put an answer in the place of what the buffer held, 60 begins a wait, every other listed command ends one; else 15
 abbrev pub obeyed_of : Buffer → ℕ → Bool → Responded
@@ -67,11 +67,11 @@ unfoldable pub write64_of : Controller → ℕ → Responded
 write64_of controller byte =
     let held = controller.buffer in
     let command = controller.command in
-    if eqb byte 0x20 then obeyed_of (buffer.Answer command) command false
-    else if eqb byte 0x60 then obeyed_of held command true
-    else if eqb byte 0xAA then obeyed_of (buffer.Answer 0x55) command false
-    else if eqb byte 0xAD then obeyed_of held (disabled_of command) false
-    else if eqb byte 0xAE then obeyed_of held (enabled_of command) false
+    when eqb byte 0x20 then obeyed_of (buffer.Answer command) command false
+    else when eqb byte 0x60 then obeyed_of held command true
+    else when eqb byte 0xAA then obeyed_of (buffer.Answer 0x55) command false
+    else when eqb byte 0xAD then obeyed_of held (disabled_of command) false
+    else when eqb byte 0xAE then obeyed_of held (enabled_of command) false
     else responds controller (Refused Command)
 
 unfoldable pub responded_of : Controller → PortEvent → Responded

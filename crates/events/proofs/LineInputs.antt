@@ -5,7 +5,7 @@ use mathlib.Core.Path.{◌≡◌, refl, ap}
 use mathlib.Core.Bool.{true, false}
 use lib.Dec.{eqb}
 use borrow.Author.Tests.{eqb-true}
-use Rattle.bits.specs.Choice.{if◌then◌else◌}
+use Rattle.bits.specs.Choice.{when◌then◌else◌}
 use Rattle.bits.proofs.Choice.{either}
 use Rattle.port.specs.declared.Effect.{Effect}
 use Rattle.port.specs.declared.Effect.TheVariants as effect
@@ -64,14 +64,14 @@ pub record Silent (answer : Answer) : Type 0 where
   pub silent : eqb (ans_of answer) 0x0C ≡ false
 
 abbrev pub bytes_in : Answer → ℕ
-bytes_in answer = if eqb (ans_of answer) 0x0C then 1 else 0
+bytes_in answer = when eqb (ans_of answer) 0x0C then 1 else 0
 
 pub none_shown : (answer : Answer) → Silent answer → bytes_in answer ≡ 0
-unfolding if◌then◌else◌
+unfolding when◌then◌else◌
 none_shown answer h = simp h.silent
 
 pub bytes_of_line : (answer : LineAnswer) (when_taken : Answer) → Silent when_taken → bytes_in (line_answer answer when_taken) ≡ sends_by answer
-unfolding if◌then◌else◌
+unfolding when◌then◌else◌
 bytes_of_line (line-answer.Send byte) when_taken h = refl
 bytes_of_line line-answer.Quiet when_taken h = refl
 bytes_of_line line-answer.Taken when_taken h = none_shown when_taken h

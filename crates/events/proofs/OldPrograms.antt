@@ -4,7 +4,7 @@ use Prim.Native.Nat.{ℕ, zero, suc}
 use mathlib.Core.Path.{◌≡◌, refl, ap, ◌∙◌, subst}
 use mathlib.Core.List.{List, [], ◌∷◌}
 use lib.ListN.{replicate}
-use Rattle.bits.specs.Choice.{if◌then◌else◌}
+use Rattle.bits.specs.Choice.{when◌then◌else◌}
 use Rattle.word.specs.declared.Word.{Word}
 use Rattle.word.specs.Word.{code_of, word_with, word_from}
 use Rattle.word.specs.OldWord.{old_word_of}
@@ -32,7 +32,7 @@ module _ (returned : Word → Word) (service : Service) (seen : Queue) (words : 
   looking = record { answered = rw (as_listed.first seen, is); words = is; beside = refl }
 
 pub first_other_is_read : FirstOtherIsRead
-unfolding step_of call_of if◌then◌else◌ for_old_program
+unfolding step_of call_of when◌then◌else◌ for_old_program
 first_other_is_read service a b ahead word later e all other =
     let seen = as_listed.past service.queue ∙ ap past_enhanced_in e ∙ passes_ahead ahead word later all other in
     record { taking = taking old_word_of service _ (word ∷ later) seen; looking = looking old_word_of service _ (word ∷ later) seen }
@@ -44,13 +44,13 @@ character_is_read_unaltered service a b ascii later e =
     (first_other_is_read service a b [] character later e tt refl)
 
 pub only_enhanced_are_removed : OnlyEnhancedAreRemoved
-unfolding step_of call_of if◌then◌else◌ for_old_program
+unfolding step_of call_of when◌then◌else◌ for_old_program
 only_enhanced_are_removed service a b all =
     let seen = as_listed.past service.queue ∙ passes_all (words_of service.queue) all in
     record { taking = taking old_word_of service _ [] seen; looking = looking old_word_of service _ [] seen }
 
 pub oldest_is_read : OldestIsRead
-unfolding step_of call_of if◌then◌else◌
+unfolding step_of call_of when◌then◌else◌
 oldest_is_read service a b word later e =
     record { taking = taking as_stored service _ (word ∷ later) e; looking = looking as_stored service _ (word ∷ later) e }
 

@@ -8,7 +8,7 @@ use mathlib.Core.List.{List, [], ◌∷◌, ◌++◌, map}
 use lib.Dec.{eqb}
 use lib.ListN.{length}
 use borrow.Author.Tests.{ltb-true, ltb-false, eqb-true}
-use Rattle.bits.specs.Choice.{if◌then◌else◌}
+use Rattle.bits.specs.Choice.{when◌then◌else◌}
 use Rattle.bits.proofs.Choice.{by_test, either}
 use Rattle.word.specs.declared.Word.{Word}
 use Rattle.word.specs.Word.{code_of, ascii_of, word_with}
@@ -63,11 +63,11 @@ record Idle (event : Event) (answer : Answer) : Type 0 where
 
 -- the answer 0B of an event that does not empty
 done : {event : Event} → empties event ≡ false → Idle event Done
-unfolding if◌then◌else◌
+unfolding when◌then◌else◌
 done e = record { words = λ list. simp e; fits = λ _. tt }
 
 emptied : (list : List Word) → [] ≡ words_after Empty Done list
-unfolding if◌then◌else◌
+unfolding when◌then◌else◌
 emptied list = refl
 
 same : {event : Event} {answer : Answer} (q : Queue) → Whole q → Idle event answer → Told event (words_of q) answer q
@@ -83,8 +83,8 @@ module _ (event : Event) (kept full : Answer) (service : Service) (word : Word) 
   abbrev words_before : List Word
   words_before = words_of service.queue
 
-  offered_by : (t : Bool) → has_room words_before ≡ t → Told event words_before (if t then kept else full) (queue.put_of service.queue word).queue
-  unfolding put_in if◌then◌else◌
+  offered_by : (t : Bool) → has_room words_before ≡ t → Told event words_before (when t then kept else full) (queue.put_of service.queue word).queue
+  unfolding put_in when◌then◌else◌
   offered_by true e =
       record {
         words = (as_listed.put service.queue word w).words ∙ simp e (sym (appends words_before));
@@ -105,7 +105,7 @@ module _ (event : Event) (kept full : Answer) (service : Service) (word : Word) 
 -- ---- keys
 
 broken_told : (event : Event) (found : List Word) → Told event found Break (queue.put_of queue.empty_queue break_word).queue
-unfolding put_in if◌then◌else◌
+unfolding put_in when◌then◌else◌
 broken_told event found =
     let whole = stays_whole.empty in
     record {
@@ -178,7 +178,7 @@ abbrev ReturnsBy : Event → (Word → Word) → Type 0
 ReturnsBy event returned = (word : Word) → returned_by event word ≡ returned word
 
 -- the answer for the first of a list, with the list after it
-oldest_by : {returned : Word → Word} (event : Event) (list after : List Word) → ReturnsBy event returned → (if removes event then rest_in list else list) ≡ after
+oldest_by : {returned : Word → Word} (event : Event) (list after : List Word) → ReturnsBy event returned → (when removes event then rest_in list else list) ≡ after
     → (after ≡ words_after event (oldest_answer returned (oldest_in list)) list) × Fits event (oldest_answer returned (oldest_in list)) list
 oldest_by event [] after r e = (sym e ∙ either (λ (l : List Word). l ≡ []) (removes event) [] [] refl refl, refl)
 oldest_by event (word ∷ later) after r e = (sym e, ap (λ (first : Word). first ∷ map (returned_by event) later) (r word))
@@ -186,7 +186,7 @@ oldest_by event (word ∷ later) after r e = (sym e, ap (λ (first : Word). firs
 -- 00 and 10
 take_tells : {returned : Word → Word} (event : Event) (service : Service) → ReturnsBy event returned → removes event ≡ true → Whole service.queue
     → Tells event (words_of service.queue) (take_of returned service)
-unfolding take_of answered_of if◌then◌else◌
+unfolding take_of answered_of when◌then◌else◌
 take_tells event service r e w =
     let list = words_of service.queue in
     let listed = as_listed.take service.queue in
@@ -203,7 +203,7 @@ take_tells event service r e w =
 -- 01 and 11
 look_tells : {returned : Word → Word} (event : Event) (service : Service) → ReturnsBy event returned → removes event ≡ false → Whole service.queue
     → Tells event (words_of service.queue) (look_of returned service)
-unfolding look_of answered_of if◌then◌else◌
+unfolding look_of answered_of when◌then◌else◌
 look_tells event service r e w =
     let list = words_of service.queue in
     let first = as_listed.first service.queue in
@@ -219,20 +219,20 @@ answered_tells event service answer q e w h = record { told = rw e (same q w h) 
 module _ (service : Service) (function a b : ℕ) where
   -- 00 and 01 find what an old program may see, every other function the words as they are
   old_found : (eqb function 0x00 || eqb function 0x01) ≡ true → found_by (Call function a b) (words_of service.queue) ≡ words_of (for_old_program service).queue
-  unfolding if◌then◌else◌ for_old_program
+  unfolding when◌then◌else◌ for_old_program
   old_found old = simp old (sym (as_listed.past service.queue))
 
   all_found : eqb function 0x00 ≡ false → eqb function 0x01 ≡ false → found_by (Call function a b) (words_of service.queue) ≡ words_of service.queue
-  unfolding if◌then◌else◌
+  unfolding when◌then◌else◌
   all_found d e = simp (d, e)
 
   -- and return them so
   old_returned : (eqb function 0x00 || eqb function 0x01) ≡ true → ReturnsBy (Call function a b) old_word_of
-  unfolding if◌then◌else◌
+  unfolding when◌then◌else◌
   old_returned old word = simp old
 
   as_stored_lem : eqb function 0x00 ≡ false → eqb function 0x01 ≡ false → ReturnsBy (Call function a b) as_stored
-  unfolding if◌then◌else◌
+  unfolding when◌then◌else◌
   as_stored_lem d e word = simp (d, e)
 
 old_whole : (service : Service) → Whole service.queue → Whole (for_old_program service).queue
@@ -277,7 +277,7 @@ call_tells service function a b w =
 -- ---- every event
 
 step_tells : (service : Service) (event : Event) → Whole service.queue → Tells event (found_by event (words_of service.queue)) (step_of service event)
-unfolding step_of poll_of time_out_of restart_of empty_of answered_of if◌then◌else◌
+unfolding step_of poll_of time_out_of restart_of empty_of answered_of when◌then◌else◌
 step_tells service (Key byte) w = key_tells service byte w
 step_tells service (Call function a b) w = call_tells service function a b w
 step_tells service Poll w = line_tells Poll service _ Taken (record { words = λ _. refl; fits = λ _. tt }) w

@@ -7,7 +7,7 @@ use mathlib.Core.List.{List, [], ◌∷◌}
 use lib.Dec.{ltb}
 use native.Mathlib.Omega.{arith}
 use borrow.Author.Tests.{lt-ltb, le-ltb, ltb-false}
-use Rattle.bits.specs.Choice.{if◌then◌else◌}
+use Rattle.bits.specs.Choice.{when◌then◌else◌}
 use Rattle.bits.proofs.Choice.{either}
 use Rattle.word.specs.declared.Word.{Word}
 use Rattle.word.specs.Word.{code_of, ascii_of, word_with}
@@ -133,8 +133,8 @@ put_unstored q word =
     either (Unstored q) _ _ _ (record { kept = λ e. absurd (true≢false e) }) (record { kept = λ _. refl })
 
 store_keeps : (service : Service) (word : Word) (after : AfterPut) → Unstored service.queue after
-    → (stored : Bool) → after.stored ≡ stored → Keeps service (answered_of (with_queue service after.queue) (if after.stored then Stored word else Refused refusal.Full))
-unfolding answered_of if◌then◌else◌
+    → (stored : Bool) → after.stored ≡ stored → Keeps service (answered_of (with_queue service after.queue) (when after.stored then Stored word else Refused refusal.Full))
+unfolding answered_of when◌then◌else◌
 store_keeps service word after h true e = record { kept = λ r. absurd (true≢false (sym r ∙ simp e)); few = simp e }
 store_keeps service word after h false e = record { kept = λ _. ap (with_queue service) (h.kept e); few = simp e }
 
@@ -189,7 +189,7 @@ at_most_five service event = ltb-false 0x85 _ (step_keeps service event).few
 -- the two sides of the claim for a list with one event more
 taken_out : (service : Service) (event : Event) (more : List Event) (refused : Bool) → is_refusal (shown_of (step_of service event)) ≡ refused
     → RefusedChangeNothing (next service event) more → RefusedChangeNothing service (event ∷ more)
-unfolding if◌then◌else◌
+unfolding when◌then◌else◌
 taken_out service event more true e h =
     let same : next service event ≡ service = refused_step_lem service event e in
     record {

@@ -6,7 +6,7 @@ use mathlib.Core.Bool.{Bool, true, false, ◌&&◌, ◌||◌, not, and-false}
 use mathlib.Core.List.{List, [], ◌∷◌, map}
 use lib.Dec.{eqb}
 use lib.ListN.{length, drop, get_or}
-use Rattle.bits.specs.Choice.{if◌then◌else◌}
+use Rattle.bits.specs.Choice.{when◌then◌else◌}
 use Rattle.bits.proofs.Choice.{by_test}
 use Rattle.bits.proofs.Tests.{not_both, neither}
 use Rattle.bits.proofs.Bytes.{upper_half}
@@ -173,7 +173,7 @@ record Ahead (locks : Locks) (codes : Codes) (keys scans : List ℕ) (kept : Kep
 module _ {locks : Locks} where
   read_ahead : {codes : Codes} {keys scans : List ℕ} (service : Service) (byte : ℕ) → Ahead locks codes (byte ∷ keys) scans (kept_of service)
       → Ahead locks codes keys scans (kept_of (read_of service byte).service)
-  unfolding read_of if◌then◌else◌
+  unfolding read_of when◌then◌else◌
   read_ahead service byte ahead =
       let step = ahead.keyboard service.shared in
       let no_reply = neither (eqb byte 0xFA) (eqb byte 0xFE) step.0 in

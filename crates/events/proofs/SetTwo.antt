@@ -5,7 +5,7 @@ use mathlib.Core.Path.{◌≡◌, refl, ap, sym, ◌∙◌}
 use mathlib.Core.Bool.{Bool, true, false}
 use mathlib.Core.List.{List, [], ◌∷◌, ◌++◌, map}
 use lib.Dec.{eqb}
-use Rattle.bits.specs.Choice.{if◌then◌else◌}
+use Rattle.bits.specs.Choice.{when◌then◌else◌}
 use Rattle.bits.proofs.Choice.{either}
 use Rattle.port.specs.declared.Effect.{Effect}
 use Rattle.port.specs.declared.Effect.TheVariants as effect
@@ -62,8 +62,8 @@ typed_apart device service codes byte =
 
 -- one of three, each on other codes
 of_three : (acknowledged resent : Bool) (codes : Codes) (x y z w : Outcome) → w ≡ on_codes z codes
-    → (if acknowledged then on_codes x codes else if resent then on_codes y codes else w) ≡ on_codes (if acknowledged then x else if resent then y else z) codes
-unfolding if◌then◌else◌
+    → (when acknowledged then on_codes x codes else when resent then on_codes y codes else w) ≡ on_codes (when acknowledged then x else when resent then y else z) codes
+unfolding when◌then◌else◌
 of_three true resent codes x y z w is = refl
 of_three false true codes x y z w is = refl
 of_three false false codes x y z w is = is
@@ -154,11 +154,11 @@ bytes_as_translated service codes bytes =
 -- ---- strokes
 
 mark_marks : translated_of SetTwo 0xF0 ≡ record { codes = SetTwoMarked; passed = Nothing }
-unfolding translated_of from_set_two if◌then◌else◌
+unfolding translated_of from_set_two when◌then◌else◌
 mark_marks = refl
 
 prefix_passes : translated_of SetTwo 0xE0 ≡ passes SetTwo 0xE0
-unfolding translated_of from_set_two if◌then◌else◌
+unfolding translated_of from_set_two when◌then◌else◌
 prefix_passes = refl
 
 -- the bytes of a stroke before others come out as its bytes on set 1, and leave no mark
@@ -167,7 +167,7 @@ record Struck (stroke : Stroke) (more : List ℕ) : Type 0 where
   codes : codes_after SetTwo (stroke_bytes Two stroke ++ more) ≡ codes_after SetTwo more
 
 struck : (extended up : Bool) (code : ℕ) (more : List ℕ) → is_no_code code ≡ false → Struck (record { extended = extended; code = code; up = up }) more
-unfolding if◌then◌else◌
+unfolding when◌then◌else◌
 struck true true code more is =
     let passes = each_code_passes code is in
     record { bytes = rw (prefix_passes, mark_marks, passes.break); codes = rw (prefix_passes, mark_marks, passes.break) }

@@ -1,7 +1,7 @@
 -- Document 01, "Keyboard bytes": step 1, and what the port's effect does to the queue. Document 02, W-203: what stands before step 1; W-206: a scanner byte.
 -- Assumes nothing.
 use Rattle.std.specs.Prelude.{ℕ, ◌||◌, eqb}
-use Rattle.bits.specs.Choice.{if◌then◌else◌}
+use Rattle.bits.specs.Choice.{when◌then◌else◌}
 use Rattle.word.specs.declared.Word.{Word}
 use Rattle.word.specs.Word.{code_of, ascii_of, word_with}
 use Rattle.port.specs.declared.Effect.{Effect}
@@ -47,8 +47,8 @@ typed_of device service byte =
 -- step 1: FA and FE are the line's, and touch no prefix
 unfoldable pub read_of : Service → ℕ → Outcome
 read_of service byte =
-    if eqb byte 0xFA then acknowledge_of service
-    else if eqb byte 0xFE then resend_of service
+    when eqb byte 0xFA then acknowledge_of service
+    else when eqb byte 0xFE then resend_of service
     else typed_of Keyboard service byte
 
 -- before step 1 a byte is translated; a mark has nothing to tell
@@ -63,4 +63,4 @@ key_of service byte =
 
 -- a scanner byte is always of set 1, and FA and FE are no replies there
 unfoldable pub scan_of : Service → ℕ → Outcome
-scan_of service byte = if eqb byte 0xFA || eqb byte 0xFE then answered_of service Ignored else typed_of Scanner service byte
+scan_of service byte = when eqb byte 0xFA || eqb byte 0xFE then answered_of service Ignored else typed_of Scanner service byte

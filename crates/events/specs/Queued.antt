@@ -1,7 +1,7 @@
 -- The queue over lists of events: at most 15 words, and every put appended or dropped as the list of words says.
 -- Assumes nothing.
 use Rattle.std.specs.Prelude.{ℕ, ◌<◌, ◌≤◌, ◌≡◌, Bool, true, false, ◌||◌, List, [], ◌∷◌, ◌++◌, map, eqb, length}
-use Rattle.bits.specs.Choice.{if◌then◌else◌}
+use Rattle.bits.specs.Choice.{when◌then◌else◌}
 use Rattle.word.specs.declared.Word.{Word}
 use Rattle.word.specs.OldWord.{old_word_of}
 use Rattle.queue.specs.Queue.{capacity}
@@ -30,11 +30,11 @@ is_old_read (Scan byte) = false
 
 -- the words that an event finds: 00 and 01 first remove the enhanced words before all others
 abbrev pub found_by : Event → List Word → List Word
-found_by event words = if is_old_read event then past_enhanced_in words else words
+found_by event words = when is_old_read event then past_enhanced_in words else words
 
 -- what an event returns for a word that it found
 abbrev pub returned_by : Event → Word → Word
-returned_by event word = if is_old_read event then old_word_of word else word
+returned_by event word = when is_old_read event then old_word_of word else word
 
 -- functions 00 and 10 remove the word that they return
 abbrev pub removes : Event → Bool
@@ -66,10 +66,10 @@ words_after event RestartAsked words = words
 words_after event Overrun words = words
 words_after event Taken words = words
 words_after event Ignored words = words
-words_after event (Returned word) words = if removes event then rest_in words else words
+words_after event (Returned word) words = when removes event then rest_in words else words
 words_after event NoWord words = words
 words_after event (Status status) words = words
-words_after event Done words = if empties event then [] else words
+words_after event Done words = when empties event then [] else words
 words_after event (Stored word) words = words ++ (word ∷ [])
 words_after event (Send byte) words = words
 words_after event Quiet words = words

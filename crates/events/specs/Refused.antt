@@ -1,7 +1,7 @@
 -- Refused C events change nothing, and no event is refused by a number above 5.
 -- Assumes nothing.
 use Rattle.std.specs.Prelude.{◌≤◌, ◌≡◌, Bool, List, [], ◌∷◌, ltb}
-use Rattle.bits.specs.Choice.{if◌then◌else◌}
+use Rattle.bits.specs.Choice.{when◌then◌else◌}
 use Rattle.state.specs.declared.Service.{Service}
 use Rattle.events.specs.declared.Event.{Event}
 use Rattle.events.specs.Step.{step_of}
@@ -15,13 +15,13 @@ is_refusal shown = ltb 0x7F shown.ans
 abbrev pub accepted : Service → List Event → List Event
 accepted service [] = []
 accepted service (event ∷ more) =
-    if is_refusal (shown_of (step_of service event)) then accepted (next service event) more
+    when is_refusal (shown_of (step_of service event)) then accepted (next service event) more
     else event ∷ accepted (next service event) more
 
 -- what is shown, without the refusals
 abbrev pub unrefused : List Shown → List Shown
 unrefused [] = []
-unrefused (shown ∷ more) = if is_refusal shown then unrefused more else shown ∷ unrefused more
+unrefused (shown ∷ more) = when is_refusal shown then unrefused more else shown ∷ unrefused more
 
 -- taking the refused events out of a list changes no other answer and not the last service
 pub record RefusedChangeNothing (service : Service) (events : List Event) : Type 0 where

@@ -1,7 +1,7 @@
 -- `sent` is no invention: it counts what the list's own answers show as sent.
 -- Assumes nothing.
 use Rattle.std.specs.Prelude.{ℕ, ◌+◌, ◌≤◌, ◌≡◌, List, [], ◌∷◌, map, eqb}
-use Rattle.bits.specs.Choice.{if◌then◌else◌}
+use Rattle.bits.specs.Choice.{when◌then◌else◌}
 use Rattle.line.specs.declared.Phase.{Phase}
 use Rattle.line.specs.declared.Phase.TheVariants.{Idle, Awaiting, Ready}
 use Rattle.line.specs.Laws.{Within}
@@ -15,7 +15,7 @@ use Rattle.events.specs.Run.{Shown, shown_of, next, run, after}
 
 -- the bytes that an event shows as sent: one with ans 0C
 abbrev pub bytes_shown : Shown → ℕ
-bytes_shown shown = if eqb shown.ans 0x0C then 1 else 0
+bytes_shown shown = when eqb shown.ans 0x0C then 1 else 0
 
 -- the count at an event, given the bytes that its command showed before; R shows none
 abbrev pub count_at : ℕ → Event → Shown → ℕ

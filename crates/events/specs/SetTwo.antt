@@ -1,7 +1,7 @@
 -- Document 02, W-203, as laws: what a keyboard of set 2 types. SetTwo.antt of proofs/ proves each sentence.
 -- Assumes nothing.
 use Rattle.std.specs.Prelude.{ℕ, ◌≡◌, Bool, false, List, [], ◌∷◌, ◌++◌, map}
-use Rattle.bits.specs.Choice.{if◌then◌else◌}
+use Rattle.bits.specs.Choice.{when◌then◌else◌}
 use Rattle.translation.specs.declared.CodeSet.{CodeSet}
 use Rattle.translation.specs.declared.CodeSet.TheVariants.{One, Two}
 use Rattle.translation.specs.declared.Codes.{Codes}
@@ -53,11 +53,11 @@ pub record Stroke : Type 0 where
 
 -- its bytes on either set: a break is marked on set 2, and has bit 7 set on set 1
 abbrev pub code_bytes : CodeSet → Stroke → List ℕ
-code_bytes One stroke = (if stroke.up then break_of (set_one_code stroke.code) else set_one_code stroke.code) ∷ []
-code_bytes Two stroke = if stroke.up then 0xF0 ∷ stroke.code ∷ [] else stroke.code ∷ []
+code_bytes One stroke = (when stroke.up then break_of (set_one_code stroke.code) else set_one_code stroke.code) ∷ []
+code_bytes Two stroke = when stroke.up then 0xF0 ∷ stroke.code ∷ [] else stroke.code ∷ []
 
 abbrev pub stroke_bytes : CodeSet → Stroke → List ℕ
-stroke_bytes set stroke = if stroke.extended then 0xE0 ∷ code_bytes set stroke else code_bytes set stroke
+stroke_bytes set stroke = when stroke.extended then 0xE0 ∷ code_bytes set stroke else code_bytes set stroke
 
 abbrev pub typed_on : CodeSet → List Stroke → List ℕ
 typed_on set [] = []

@@ -4,7 +4,7 @@ use Prim.Native.Nat.{ℕ}
 use mathlib.Core.Path.{◌≡◌, refl}
 use mathlib.Core.Bool.{true, false}
 use lib.Dec.{eqb}
-use Rattle.bits.specs.Choice.{if◌then◌else◌}
+use Rattle.bits.specs.Choice.{when◌then◌else◌}
 use Rattle.translation.specs.declared.Passed.{Passed}
 use Rattle.translation.specs.declared.Passed.TheVariants.{Nothing, Byte}
 use Rattle.translation.specs.Translation.{translated_of}
@@ -16,17 +16,17 @@ use Rattle.events.specs.Keyboard.{typed_of, read_of, on_passed, key_of, scan_of}
 use Rattle.events_keyboard.specs.Devices.{translated_from, acknowledged_from, resent_from, read_from, on_passed_from, byte_from}
 
 pub fa_read : (device : Device) (service : Service) (byte : ℕ) → eqb byte 0xFA ≡ true → acknowledged_from device service ≡ read_from device service byte
-unfolding read_of scan_of if◌then◌else◌
+unfolding read_of scan_of when◌then◌else◌
 fa_read Keyboard service byte fa = simp fa
 fa_read Scanner service byte fa = simp fa
 
 pub fe_read : (device : Device) (service : Service) (byte : ℕ) → eqb byte 0xFA ≡ false → eqb byte 0xFE ≡ true → resent_from device service ≡ read_from device service byte
-unfolding read_of scan_of if◌then◌else◌
+unfolding read_of scan_of when◌then◌else◌
 fe_read Keyboard service byte fa fe = simp (fa, fe)
 fe_read Scanner service byte fa fe = simp (fa, fe)
 
 pub key_read : (device : Device) (service : Service) (byte : ℕ) → eqb byte 0xFA ≡ false → eqb byte 0xFE ≡ false → typed_of device service byte ≡ read_from device service byte
-unfolding read_of scan_of if◌then◌else◌
+unfolding read_of scan_of when◌then◌else◌
 key_read Keyboard service byte fa fe = simp (fa, fe)
 key_read Scanner service byte fa fe = simp (fa, fe)
 

@@ -4,7 +4,7 @@ use Prim.Native.Nat.{ℕ}
 use mathlib.Core.Path.{◌≡◌, refl, ap, sym, ◌∙◌, subst}
 use mathlib.Core.Bool.{true, false}
 use lib.Dec.{eqb}
-use Rattle.bits.specs.Choice.{if◌then◌else◌}
+use Rattle.bits.specs.Choice.{when◌then◌else◌}
 use Rattle.bits.proofs.Choice.{by_test, both}
 use Rattle.bits.proofs.Tests.{not_both}
 use Rattle.word.specs.declared.Word.{Word}
@@ -84,7 +84,7 @@ put_became service word k s =
     }
 
 broken_became : (service : Service) → Became (broken_of service) (broken_of (former_service service))
-unfolding broken_of answered_of queue.put_of queue.empty_queue old_word_of if◌then◌else◌
+unfolding broken_of answered_of queue.put_of queue.empty_queue old_word_of when◌then◌else◌
 broken_became service = record { is = refl; settled = record { alike = refl } }
 
 effect_became : (service : Service) (e : Effect) → KeptEffect e → Settled service.queue
@@ -210,21 +210,21 @@ module _ (service : Service) (function a b : ℕ) (s : Settled service.queue) wh
       (λ y. not_both y n) (answered_became service _ refl s)
 
   take_called : eqb function 0x00 ≡ true → call_of service function a b ≡ take_of old_word_of (for_old_program service)
-  unfolding call_of if◌then◌else◌
+  unfolding call_of when◌then◌else◌
   take_called d = simp d
 
   look_called : eqb function 0x00 ≡ false → eqb function 0x01 ≡ true → call_of service function a b ≡ look_of old_word_of (for_old_program service)
-  unfolding call_of if◌then◌else◌
+  unfolding call_of when◌then◌else◌
   look_called d e = simp (d, e)
 
 -- ---- every event
 
 as_read : (event : Event) {now former : Outcome} → is_old_read event ≡ true → Read now former → Told (told_at event) now former
-unfolding if◌then◌else◌
+unfolding when◌then◌else◌
 as_read event e r = record { is = rw e r.is; settled = r.settled }
 
 as_became : (event : Event) {now former : Outcome} → is_old_read event ≡ false → Became now former → Told (told_at event) now former
-unfolding if◌then◌else◌
+unfolding when◌then◌else◌
 as_became event e r = record { is = rw e r.is; settled = r.settled }
 
 call_stepped : (service : Service) (function a b : ℕ) → Settled service.queue → eqb function 0x05 ≡ false

@@ -6,7 +6,7 @@ use mathlib.Core.Bool.{Bool, false}
 use mathlib.Core.List.{List, [], ◌∷◌, map}
 use lib.Dec.{eqb, ltb}
 use lib.ListN.{get_or, set, get_or-map}
-use Rattle.bits.specs.Choice.{if◌then◌else◌}
+use Rattle.bits.specs.Choice.{when◌then◌else◌}
 use Rattle.bits.proofs.Choice.{either, both}
 use Rattle.word.specs.declared.Word.{Word}
 use Rattle.word.specs.Word.{is_enhanced}
@@ -36,7 +36,7 @@ map_set f (y ∷ more) (suc place) x = ap (◌∷◌ (f y)) (map_set f more plac
 
 -- what stands at a place, the blank word where there is none
 at_place : (words : List Word) (place : ℕ) → get_or (map old_word_of words) place blank ≡ old_word_of (get_or words place blank)
-unfolding old_word_of if◌then◌else◌
+unfolding old_word_of when◌then◌else◌
 at_place words place = get_or-map old_word_of words place blank
 
 pub former_words : (queue : Queue) → words_of (former_queue queue) ≡ map old_word_of (words_of queue)
@@ -52,7 +52,7 @@ former_words queue = go queue.head (held_in queue)
 -- ---- calls
 
 pub former_empty : former_queue empty_queue ≡ empty_queue
-unfolding empty_queue old_word_of if◌then◌else◌
+unfolding empty_queue old_word_of when◌then◌else◌
 former_empty = refl
 
 pub former_oldest_lem : (queue : Queue) → oldest_of (former_queue queue) ≡ former_oldest (oldest_of queue)
@@ -78,7 +78,7 @@ pub record Settled (queue : Queue) : Type 0 where
   pub alike : map (λ (word : Word). is_enhanced (old_word_of word)) queue.words ≡ map is_enhanced queue.words
 
 pub settled_empty : Settled empty_queue
-unfolding empty_queue old_word_of if◌then◌else◌
+unfolding empty_queue old_word_of when◌then◌else◌
 settled_empty = record { alike = refl }
 
 pub settled_rest : (queue : Queue) → Settled queue → Settled (rest_of queue)
@@ -104,7 +104,7 @@ settled_put queue word e s = either (λ (after : AfterPut). Settled after.queue)
 
 enhanced_at : (queue : Queue) (place : ℕ) → Settled queue
     → is_enhanced (get_or (map old_word_of queue.words) place blank) ≡ is_enhanced (get_or queue.words place blank)
-unfolding old_word_of if◌then◌else◌
+unfolding old_word_of when◌then◌else◌
 enhanced_at queue place s =
     ap is_enhanced (at_place queue.words place)
     ∙ sym (get_or-map (λ (w : Word). is_enhanced (old_word_of w)) queue.words place blank)

@@ -5,7 +5,7 @@ use mathlib.Core.Bool.{Bool, true, false, ◌&&◌, beq}
 use mathlib.Core.List.{List, [], ◌∷◌}
 use lib.Dec.{T}
 use borrow.Author.Tests.{eqb-true}
-use Rattle.bits.specs.Choice.{if◌then◌else◌}
+use Rattle.bits.specs.Choice.{when◌then◌else◌}
 use Rattle.bits.proofs.Choice.{by_test_both}
 use Rattle.bits.proofs.Tests.{and_left, and_right, each_of_four}
 use Rattle.word.specs.declared.ScanCode.{ScanCode}
@@ -80,7 +80,7 @@ pass (r ∷ more) [] = false
 pass (r ∷ more) (f ∷ formers) = same_code r.code f.code && (cells_pass r f && pass more formers)
 
 test : (extended : Bool) → T (pass (rows_for extended) (former_rows_for extended))
-unfolding if◌then◌else◌ rows extended_rows former_extended_rows old_word_of
+unfolding when◌then◌else◌ rows extended_rows former_extended_rows old_word_of
 test false = tt
 test true = tt
 
@@ -111,7 +111,7 @@ entries [] [] t code column = record { is = refl; kept = tt }
 entries [] (f ∷ formers) t code column = absurd t
 entries (r ∷ more) [] t code column = absurd t
 entries (r ∷ more) (f ∷ formers) t code column =
-    subst (λ (x : ScanCode). FormerEntry (entry_in (r ∷ more) code column) (if same_code code x then meaning code (print_at f column) else entry_in formers code column))
+    subst (λ (x : ScanCode). FormerEntry (entry_in (r ∷ more) code column) (when same_code code x then meaning code (print_at f column) else entry_in formers code column))
     (same_code_lem r.code f.code (and_left (same_code r.code f.code) (cells_pass r f && pass more formers) t))
     (by_test_both FormerEntry (same_code code r.code) here (λ _. entries more formers (and_right (cells_pass r f) (pass more formers) rest) code column))
   where

@@ -1,7 +1,7 @@
 -- The service as it was before document 02, W-205: grey keys put the words of the keys that they double, and 00 and 01 return what is stored.
 -- Assumes nothing.
 use Rattle.std.specs.Prelude.{ℕ, Bool, true, false, ◌||◌, List, [], ◌∷◌, ◌++◌, map, eqb}
-use Rattle.bits.specs.Choice.{if◌then◌else◌}
+use Rattle.bits.specs.Choice.{when◌then◌else◌}
 use Rattle.word.specs.declared.ScanCode.{ScanCode}
 use Rattle.word.specs.Word.{code_of}
 use Rattle.rows.specs.declared.Entry.{Entry}
@@ -86,8 +86,8 @@ former_typed_of device service byte =
 -- step 1 and what stands before it
 unfoldable pub former_read_of : Service → ℕ → Outcome
 former_read_of service byte =
-    if eqb byte 0xFA then acknowledge_of service
-    else if eqb byte 0xFE then resend_of service
+    when eqb byte 0xFA then acknowledge_of service
+    else when eqb byte 0xFE then resend_of service
     else former_typed_of Keyboard service byte
 
 abbrev pub former_on_passed : Service → Passed → Outcome
@@ -101,13 +101,13 @@ former_key_of service byte =
 
 -- a scanner, which came later, beside these rows
 unfoldable pub former_scan_of : Service → ℕ → Outcome
-former_scan_of service byte = if eqb byte 0xFA || eqb byte 0xFE then answered_of service Ignored else former_typed_of Scanner service byte
+former_scan_of service byte = when eqb byte 0xFA || eqb byte 0xFE then answered_of service Ignored else former_typed_of Scanner service byte
 
 -- functions: 00 and 01 returned words as 10 and 11 do
 unfoldable pub former_call_of : Service → ℕ → ℕ → ℕ → Outcome
 former_call_of service function a b =
-    if eqb function 0x00 then take_of as_stored (for_old_program service)
-    else if eqb function 0x01 then look_of as_stored (for_old_program service)
+    when eqb function 0x00 then take_of as_stored (for_old_program service)
+    else when eqb function 0x01 then look_of as_stored (for_old_program service)
     else call_of service function a b
 
 -- one event

@@ -1,7 +1,7 @@
 -- What old programs see is what they saw before document 02, W-205. Proved in proofs/Lists.antt.
 -- Assumes nothing.
 use Rattle.std.specs.Prelude.{ℕ, ◌≡◌, Bool, false, List, [], ◌∷◌, map, eqb}
-use Rattle.bits.specs.Choice.{if◌then◌else◌}
+use Rattle.bits.specs.Choice.{when◌then◌else◌}
 use Rattle.word.specs.OldWord.{old_word_of}
 use Rattle.queue.specs.Words.{words_of}
 use Rattle.translation.specs.declared.CodeSet.{CodeSet}
@@ -55,7 +55,7 @@ as_old_answer (Refused refusal) = Refused refusal
 
 -- what was told at an event, of what is told now: by 00 and 01 the same; by keys, 10 and 11 the words that 00 and 01 return for theirs
 abbrev pub told_at : Event → Answer → Answer
-told_at e answer = if is_old_read e then answer else as_old_answer answer
+told_at e answer = when is_old_read e then answer else as_old_answer answer
 
 -- but for the stored words the services are one
 pub record AsFormerly (event : Event) (now former : Outcome) : Type 0 where

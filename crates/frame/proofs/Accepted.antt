@@ -6,7 +6,7 @@ use native.Mathlib.Omega.{arith}
 use lib.Dec.{leb}
 use lib.Count.{ones}
 use borrow.Author.Tests.{leb-false, eqb-true, not-false, lt-leb, eq-eqb}
-use Rattle.bits.specs.Choice.{if◌then◌else◌}
+use Rattle.bits.specs.Choice.{when◌then◌else◌}
 use Rattle.bits.proofs.Choice.{by_test}
 use Rattle.bits.proofs.Tests.{neither}
 use Rattle.frame.specs.declared.Fault.{Fault}
@@ -22,7 +22,7 @@ pub record Faultless (frame byte : ℕ) : Type 0 where
   pub carries : data_of frame ≡ byte
 
 pub faultless_read : (frame byte : ℕ) → Faultless frame byte → read_frame frame ≡ Byte byte
-unfolding read_frame if◌then◌else◌
+unfolding read_frame when◌then◌else◌
 faultless_read frame byte h =
     simp (lt-leb _ _ h.below, eq-eqb _ _ h.start, eq-eqb _ _ h.parity, eq-eqb _ _ h.stop, h.carries)
 

@@ -8,7 +8,7 @@ use native.Mathlib.Omega.{arith}
 use lib.Pow.{mod-pow-add, shr-shr}
 use lib.Count.{ones, ones_in, ones_cat}
 use borrow.Author.Tests.{le-leb}
-use Rattle.bits.specs.Choice.{if◌then◌else◌}
+use Rattle.bits.specs.Choice.{when◌then◌else◌}
 use Rattle.frame.specs.declared.Fault.TheVariants.{Start}
 use Rattle.frame.specs.declared.Reading.TheVariants.{Refused}
 use Rattle.frame.specs.Frame.{bits_at, data_and_parity_of, parity_for, frame_of, read_frame}
@@ -55,15 +55,15 @@ faultless_written frame byte h =
 
 -- computed at each number of eleven bits
 of_eleven_bits : accepted_below 2048 ≡ 256
-unfolding accepted_below read_frame if◌then◌else◌ ones ones_in
+unfolding accepted_below read_frame when◌then◌else◌ ones ones_in
 of_eleven_bits = refl
 
 too_large : (frame : ℕ) → 2048 ≤ frame → read_frame frame ≡ Refused Start
-unfolding read_frame if◌then◌else◌
+unfolding read_frame when◌then◌else◌
 too_large frame h = simp (le-leb _ _ h)
 
 counted_below : (limit : ℕ) → 2048 ≤ limit → accepted_below limit ≡ 256
-unfolding accepted_below if◌then◌else◌
+unfolding accepted_below when◌then◌else◌
 counted_below = le_ind (λ (limit : ℕ). accepted_below limit ≡ 256) of_eleven_bits (λ frame h e. rw (too_large frame h) (omega arith))
 
 pub one_frame_each : OneFrameEach

@@ -2,7 +2,7 @@
 -- Assumes nothing.
 use Rattle.std.specs.Prelude.{ℕ, ◌+◌, ◌-◌, ◌*◌, ◌/◌, ◌%◌, ◌^◌, Bool, ◌||◌, not, leb, eqb}
 use Rattle.std.specs.Int.Count.{ones}
-use Rattle.bits.specs.Choice.{if◌then◌else◌}
+use Rattle.bits.specs.Choice.{when◌then◌else◌}
 use Rattle.frame.specs.declared.Fault.{Fault}
 use Rattle.frame.specs.declared.Fault.TheVariants.{Start, Parity, Stop}
 use Rattle.frame.specs.declared.Reading.{Reading}
@@ -40,9 +40,9 @@ frame_of byte = 0 * 2 ^ 0 + byte * 2 ^ 1 + parity_for byte * 2 ^ 9 + 1 * 2 ^ 10
 -- the reader: the byte, or the first fault
 unfoldable pub read_frame : ℕ → Reading
 read_frame frame =
-    if leb 2048 frame || not (eqb (start_of frame) 0) then Refused Start
-    else if not (is_odd (ones (data_and_parity_of frame))) then Refused Parity
-    else if not (eqb (stop_of frame) 1) then Refused Stop
+    when leb 2048 frame || not (eqb (start_of frame) 0) then Refused Start
+    else when not (is_odd (ones (data_and_parity_of frame))) then Refused Parity
+    else when not (eqb (stop_of frame) 1) then Refused Stop
     else Byte (data_of frame)
 
 -- 11 too large or the start bit not 0, 12 parity, 13 the stop bit not 1

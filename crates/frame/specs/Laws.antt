@@ -1,7 +1,7 @@
 -- What holds of frames. OneFrameEach.antt of proofs/ proves it.
 -- Assumes nothing.
 use Rattle.std.specs.Prelude.{ℕ, suc, zero, ◌+◌, ◌≤◌, ◌<◌, ◌≡◌, Bool, true, false}
-use Rattle.bits.specs.Choice.{if◌then◌else◌}
+use Rattle.bits.specs.Choice.{when◌then◌else◌}
 use Rattle.frame.specs.declared.Reading.{Reading}
 use Rattle.frame.specs.declared.Reading.TheVariants.{Byte, Refused}
 use Rattle.frame.specs.Frame.{frame_of, read_frame}
@@ -13,7 +13,7 @@ is_accepted (Refused fault) = false
 -- how many numbers below a limit are accepted
 unfoldable pub accepted_below : ℕ → ℕ
 accepted_below zero = 0
-accepted_below (suc frame) = (if is_accepted (read_frame frame) then 1 else 0) + accepted_below frame
+accepted_below (suc frame) = (when is_accepted (read_frame frame) then 1 else 0) + accepted_below frame
 
 -- a byte's frame is read as that byte, whatever is read as a byte is its frame, and so 256 numbers are accepted and no more
 pub record OneFrameEach : Type 0 where

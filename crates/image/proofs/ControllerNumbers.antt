@@ -6,7 +6,7 @@ use mathlib.Core.Bool.{Bool, true, false, not, ◌&&◌}
 use lib.Dec.{eqb}
 use lib.ListN.{replicate}
 use borrow.Author.Tests.{eqb-true}
-use Rattle.bits.specs.Choice.{if◌then◌else◌}
+use Rattle.bits.specs.Choice.{when◌then◌else◌}
 use Rattle.bits.proofs.Tests.{not_both}
 use Rattle.controller.specs.declared.Buffer.{Buffer}
 use Rattle.controller.specs.declared.Buffer.TheVariants.{Empty, Key, Answer}
@@ -31,21 +31,21 @@ abbrev is_other : ℕ → Bool
 is_other number = not (eqb number 1) && not (eqb number 2)
 
 abbrev chosen : Bool → Bool → ℕ → Buffer
-chosen key answer byte = if key then Key byte else if answer then Answer byte else Empty byte
+chosen key answer byte = when key then Key byte else when answer then Answer byte else Empty byte
 
 record Holds (held : Buffer) (number byte : ℕ) : Type 0 where
   number_is : buffer_number held ≡ number
   holds : held_in held ≡ byte
 
 is_empty : (key answer : Bool) (byte : ℕ) → (not key && not answer) ≡ true → Holds (chosen key answer byte) 0 byte
-unfolding if◌then◌else◌
+unfolding when◌then◌else◌
 is_empty true answer byte other = not_both other refl
 is_empty false true byte other = not_both other refl
 is_empty false false byte other = record { number_is = refl; holds = refl }
 
 is_full_lem : (key answer : Bool) (number byte : ℕ) → (key ≡ true → number ≡ 1) → (answer ≡ true → number ≡ 2) → (not key && not answer) ≡ false
     → Holds (chosen key answer byte) number byte
-unfolding if◌then◌else◌
+unfolding when◌then◌else◌
 is_full_lem true answer number byte one two held = record { number_is = sym (one refl); holds = refl }
 is_full_lem false true number byte one two held = record { number_is = sym (two refl); holds = refl }
 is_full_lem false false number byte one two held = not_both refl held

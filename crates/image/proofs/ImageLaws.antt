@@ -8,7 +8,7 @@ use mathlib.Core.Bool.{Bool, true, false}
 use mathlib.Core.List.{List, [], ◌∷◌, map}
 use lib.Dec.{eqb, ltb}
 use borrow.Author.Tests.{lt-ltb, ltb-true, eqb-true, eqb-false, eq-eqb, ne_eqb}
-use Rattle.bits.specs.Choice.{if◌then◌else◌}
+use Rattle.bits.specs.Choice.{when◌then◌else◌}
 use Rattle.bits.specs.Bits.{weight_of, byte_of, bit0}
 use Rattle.bits.proofs.Choice.{by_test, either}
 use Rattle.bits.proofs.Bytes.{digit, Spelt, spelt, digit_read, BitsBack, bits_back, lower_half_raised}
@@ -68,7 +68,7 @@ pub upper_back : (prefix : ℕ) (codes : Codes) → input_number prefix codes / 
 upper_back prefix codes = omega arith
 
 prefix_back : (prefix : Prefix) → prefix_at (prefix_number prefix) ≡ prefix
-unfolding prefix_at if◌then◌else◌
+unfolding prefix_at when◌then◌else◌
 prefix_back Closed = refl
 prefix_back E0 = refl
 prefix_back E1 = refl
@@ -84,7 +84,7 @@ half_back E1Make = prefix_back E1Make
 half_back E1Break = prefix_back E1Break
 
 pub codes_back : (codes : Codes) → codes_at (codes_number codes) ≡ codes
-unfolding codes_at if◌then◌else◌
+unfolding codes_at when◌then◌else◌
 codes_back SetOne = refl
 codes_back SetTwo = refl
 codes_back SetTwoMarked = refl
@@ -134,15 +134,15 @@ port_back port =
 
 -- the controller
 turned_odd : (command : ℕ) → command % 2 ≡ 1 → turned_over (command - 1) ≡ command
-unfolding turned_over if◌then◌else◌
+unfolding turned_over when◌then◌else◌
 turned_odd command odd = simp (ne_eqb ((command - 1) % 2) 1 (λ e. omega (arith, odd, e))) (omega (arith, odd))
 
 turned_even : (command : ℕ) → (command % 2 ≡ 1 → ⊥) → turned_over (command + 1) ≡ command
-unfolding turned_over if◌then◌else◌
+unfolding turned_over when◌then◌else◌
 turned_even command even = simp (eq-eqb ((command + 1) % 2) 1 (omega (arith, even))) (omega arith)
 
 -- what turnedOver is, once
-turned : (command : ℕ) → turned_over command ≡ (if bit0 command then command - 1 else command + 1)
+turned : (command : ℕ) → turned_over command ≡ (when bit0 command then command - 1 else command + 1)
 unfolding turned_over
 turned command = refl
 
@@ -153,7 +153,7 @@ turned_back command =
     (λ odd. turned_odd command (eqb-true (command % 2) 1 odd)) (λ even. turned_even command (eqb-false (command % 2) 1 even))
 
 buffer_back : (held : Buffer) → buffer_at (buffer_number held) (held_in held) ≡ held
-unfolding buffer_at if◌then◌else◌
+unfolding buffer_at when◌then◌else◌
 buffer_back (Empty last) = refl
 buffer_back (Key byte) = refl
 buffer_back (Answer byte) = refl
@@ -166,7 +166,7 @@ odd_part : (number digit rest : ℕ) → number ≡ digit + 2 * rest → digit �
 odd_part number digit rest is most = omega arith
 
 marks_back : (line : Line) → LineInRange line → marks_at (byte97_of line) ≡ line.marks
-unfolding byte97_of weight_of if◌then◌else◌
+unfolding byte97_of weight_of when◌then◌else◌
 marks_back line h =
     let m = line.marks in
     let upper : ℕ = byte_of false false false false m.acknowledged m.resend (led_runs_of line) m.abandoned in
@@ -188,7 +188,7 @@ words_back [] = refl
 words_back (word ∷ words) = ap (λ (more : List Word). word ∷ more) (words_back words)
 
 queue_back : (queue : Queue) → QueueInRange queue → queue_at (queue_image queue) ≡ queue
-unfolding queue_at queue_image head_at if◌then◌else◌
+unfolding queue_at queue_image head_at when◌then◌else◌
 queue_back queue h =
     let count : min queue.count capacity ≡ queue.count = omega (arith, h.count) in
     simp (words_back, lt-ltb _ _ h.head, count)
@@ -202,12 +202,12 @@ queue_read image =
     }
 
 kind_back : (kind : Kind) → kind_at (kind_number kind) ≡ kind
-unfolding kind_at if◌then◌else◌
+unfolding kind_at when◌then◌else◌
 kind_back Led = refl
 kind_back Rate = refl
 
 value_back : (kind : Kind) (value : ℕ) → value < values_of kind → value_in (kind_number kind) value ≡ value
-unfolding value_in if◌then◌else◌
+unfolding value_in when◌then◌else◌
 value_back Led value h = mod-eq_of_lt h
 value_back Rate value h = mod-eq_of_lt h
 
@@ -218,7 +218,7 @@ command_back command h phase =
     simp (flag_back, kind_back, value_back command.kind command.value h.value, sends, sent)
 
 phase_back : (phase : Phase) → PhaseInRange phase → phase_at (phase_image phase) ≡ phase
-unfolding phase_at if◌then◌else◌
+unfolding phase_at when◌then◌else◌
 phase_back (Idle turn) h = ap Idle (kind_back turn)
 phase_back (Awaiting command) h = ap Awaiting (command_back command h 1)
 phase_back (Ready command) h = ap Ready (command_back command h 2)
@@ -226,7 +226,7 @@ phase_back (Ready command) h = ap Ready (command_back command h 2)
 -- a setting with fewer than so many values
 module _ (values : ℕ) where
   setting_back : (setting : Setting) → SettingBelow values setting → setting_at (setting_image setting).known ((setting_image setting).value % values) ≡ setting
-  unfolding setting_at if◌then◌else◌
+  unfolding setting_at when◌then◌else◌
   setting_back None h = refl
   setting_back (Value value) h = ap Value (mod-eq_of_lt h)
 
@@ -244,8 +244,8 @@ line_back line h =
       setting_back rate_values line.rate h.rate,
     )
 
-value_by : (led : Bool) (value : ℕ) → (if led then value % led_values else value % rate_values) < values_of (if led then Led else Rate)
-unfolding if◌then◌else◌
+value_by : (led : Bool) (value : ℕ) → (when led then value % led_values else value % rate_values) < values_of (when led then Led else Rate)
+unfolding when◌then◌else◌
 value_by true value = omega arith
 value_by false value = omega arith
 
@@ -288,13 +288,13 @@ comes_back service in_range =
     simp (keyboard_back service, port_back, controller_back, upper_back, codes_back, shared_back service, queue_back service.queue in_range.queue, its_line_back service in_range.line)
 
 none_set : byte_of false false false false false false false false ≡ 0
-unfolding byte_of weight_of if◌then◌else◌
+unfolding byte_of weight_of when◌then◌else◌
 none_set = refl
 
 line_clear : (set : CodeSet) (bits : ℕ) → shown97 (new_service set bits) ≡ 0
-unfolding shown97 byte97_of led_runs_of led_runs_in new_service new_line byte_of weight_of if◌then◌else◌
+unfolding shown97 byte97_of led_runs_of led_runs_in new_service new_line byte_of weight_of when◌then◌else◌
 line_clear set bits = refl
 
 pub made_anew : MadeAnew
-unfolding image_of new_image new_port_image new_controller_image byte17_of byte18_of byte96_of queue_image line_image port_image sides_number locks_held_number controller_image turned_over new_controller if◌then◌else◌ new_service locks_of empty_queue new_line
+unfolding image_of new_image new_port_image new_controller_image byte17_of byte18_of byte96_of queue_image line_image port_image sides_number locks_held_number controller_image turned_over new_controller when◌then◌else◌ new_service locks_of empty_queue new_line
 made_anew set bits = simp (lower_half_raised, none_set, line_clear)

@@ -1,7 +1,7 @@
 -- Document 02, W-207: the controller as numbers, and what any such numbers mean.
 -- Assumes nothing.
 use Rattle.std.specs.Prelude.{ℕ, ◌+◌, ◌-◌, eqb, replicate}
-use Rattle.bits.specs.Choice.{if◌then◌else◌}
+use Rattle.bits.specs.Choice.{when◌then◌else◌}
 use Rattle.bits.specs.Bits.{bit0}
 use Rattle.controller.specs.declared.Buffer.{Buffer}
 use Rattle.controller.specs.declared.Buffer.TheVariants.{Empty, Key, Answer}
@@ -11,7 +11,7 @@ use Rattle.image.specs.ImageLine.{flag_of, is_set}
 
 -- bit 0 turned over: the command byte of a new controller, 01, has the number 0
 unfoldable pub turned_over : ℕ → ℕ
-turned_over command = if bit0 command then command - 1 else command + 1
+turned_over command = when bit0 command then command - 1 else command + 1
 
 abbrev pub buffer_number : Buffer → ℕ
 buffer_number (Empty last) = 0
@@ -25,7 +25,7 @@ held_in (Key byte) = byte
 held_in (Answer byte) = byte
 
 unfoldable pub buffer_at : ℕ → ℕ → Buffer
-buffer_at number byte = if eqb number 1 then Key byte else if eqb number 2 then Answer byte else Empty byte
+buffer_at number byte = when eqb number 1 then Key byte else when eqb number 2 then Answer byte else Empty byte
 
 unfoldable pub controller_image : Controller → ControllerImage
 controller_image controller =

@@ -1,7 +1,7 @@
 -- The flag bytes of a service, and the modifiers, held bits, locks and pause that any such bytes mean; prefixes and codes as numbers.
 -- Assumes nothing.
 use Rattle.std.specs.Prelude.{ℕ, ◌+◌, ◌*◌, ◌/◌, ◌%◌, eqb}
-use Rattle.bits.specs.Choice.{if◌then◌else◌}
+use Rattle.bits.specs.Choice.{when◌then◌else◌}
 use Rattle.bits.specs.Bits.{bit0, bit1, bit2, bit3, bit4, bit5, bit6, bit7}
 use Rattle.port.specs.declared.Prefix.{Prefix}
 use Rattle.port.specs.declared.Prefix.TheVariants.{Closed, E0, E1, E1Make, E1Break}
@@ -52,10 +52,10 @@ prefix_number E1Break = 4
 -- any other number is no prefix
 unfoldable pub prefix_at : ℕ → Prefix
 prefix_at number =
-    if eqb number 1 then E0
-    else if eqb number 2 then E1
-    else if eqb number 3 then E1Make
-    else if eqb number 4 then E1Break
+    when eqb number 1 then E0
+    else when eqb number 2 then E1
+    else when eqb number 3 then E1Make
+    else when eqb number 4 then E1Break
     else Closed
 
 abbrev pub codes_number : Codes → ℕ
@@ -70,6 +70,6 @@ input_number prefix codes = prefix % 16 + 16 * codes_number codes
 -- any other number is set 1
 unfoldable pub codes_at : ℕ → Codes
 codes_at number =
-    if eqb number 1 then SetTwo
-    else if eqb number 2 then SetTwoMarked
+    when eqb number 1 then SetTwo
+    else when eqb number 2 then SetTwoMarked
     else SetOne

@@ -1,7 +1,7 @@
 -- Lines as numbers, and what any such numbers mean; the marks are in byte 97.
 -- Assumes nothing.
 use Rattle.std.specs.Prelude.{ℕ, min, ◌%◌, Bool, true, false, not, eqb}
-use Rattle.bits.specs.Choice.{if◌then◌else◌}
+use Rattle.bits.specs.Choice.{when◌then◌else◌}
 use Rattle.bits.specs.Bits.{bit4, bit5, bit7}
 use Rattle.line.specs.declared.Kind.{Kind}
 use Rattle.line.specs.declared.Kind.TheVariants.{Led, Rate}
@@ -30,14 +30,14 @@ kind_number Led = 0
 kind_number Rate = 1
 
 unfoldable pub kind_at : ℕ → Kind
-kind_at number = if eqb number 0 then Led else Rate
+kind_at number = when eqb number 0 then Led else Rate
 
 abbrev pub setting_image : Setting → SettingImage
 setting_image None = record { known = 0; value = 0 }
 setting_image (Value value) = record { known = 1; value = value }
 
 unfoldable pub setting_at : ℕ → ℕ → Setting
-setting_at known value = if eqb known 0 then None else Value value
+setting_at known value = when eqb known 0 then None else Value value
 
 abbrev pub command_image : ℕ → Command → CommandImage
 command_image phase command =
@@ -52,7 +52,7 @@ command_image phase command =
 
 -- of a command's value the bits that its kind has
 unfoldable pub value_in : ℕ → ℕ → ℕ
-value_in kind value = if eqb kind 0 then value % led_values else value % rate_values
+value_in kind value = when eqb kind 0 then value % led_values else value % rate_values
 
 -- more sends than a byte has are read as three, more bytes than a command sends as six
 abbrev pub command_at : CommandImage → Command
@@ -74,8 +74,8 @@ phase_image (Ready command) = command_image 2 command
 -- any other number is an idle line
 unfoldable pub phase_at : CommandImage → Phase
 phase_at image =
-    if eqb image.phase 1 then Awaiting (command_at image)
-    else if eqb image.phase 2 then Ready (command_at image)
+    when eqb image.phase 1 then Awaiting (command_at image)
+    else when eqb image.phase 2 then Ready (command_at image)
     else Idle (kind_at image.kind)
 
 abbrev pub marks_at : ℕ → Marks

@@ -1,7 +1,7 @@
 -- Queues as numbers, and what any such numbers mean.
 -- Assumes nothing.
 use Rattle.std.specs.Prelude.{ℕ, min, map, ltb}
-use Rattle.bits.specs.Choice.{if◌then◌else◌}
+use Rattle.bits.specs.Choice.{when◌then◌else◌}
 use Rattle.word.specs.declared.Word.{Word}
 use Rattle.word.specs.Word.{code_of, ascii_of, word_with}
 use Rattle.queue.specs.declared.Queue.{Queue}
@@ -21,7 +21,7 @@ queue_image queue =
 
 -- a head beyond the fifteenth place is read as the first, a count above 15 as 15
 unfoldable pub head_at : ℕ → ℕ
-head_at head = if ltb head capacity then head else 0
+head_at head = when ltb head capacity then head else 0
 
 unfoldable pub queue_at : QueueImage → Queue
 queue_at image =

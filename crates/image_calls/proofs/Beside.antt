@@ -2,7 +2,7 @@
 -- Assumes nothing.
 use mathlib.Core.Path.{◌≡◌, refl, ap, sym, ◌∙◌}
 use mathlib.Core.Bool.{false}
-use Rattle.bits.specs.Choice.{if◌then◌else◌}
+use Rattle.bits.specs.Choice.{when◌then◌else◌}
 use Rattle.controller.specs.declared.Controller.{Controller}
 use Rattle.controller.specs.State.{new_controller}
 use Rattle.state.specs.declared.Service.{Service}
@@ -35,7 +35,7 @@ unfolding image_of on_controller byte17_of byte18_of byte96_of byte97_of
 put_in service controller is = ap (λ (c : Controller). on_controller (controller_image c) (image_of service)) (sym is)
 
 kept : (image : Image) (event : Event) → is_restart event ≡ false → OnImage image event
-unfolding bare_service_of service_of if◌then◌else◌
+unfolding bare_service_of service_of when◌then◌else◌
 kept image event other =
     let s = service_of image in
     let is = controller_apart new_controller s event other in
@@ -47,7 +47,7 @@ kept image event other =
     }
 
 renewed : (image : Image) → OnImage image Restart
-unfolding bare_service_of step_of restart_of image_of on_controller controller_image turned_over new_controller new_controller_image if◌then◌else◌
+unfolding bare_service_of step_of restart_of image_of on_controller controller_image turned_over new_controller new_controller_image when◌then◌else◌
     byte17_of byte18_of byte96_of byte97_of
 renewed image = record { answer = refl; sent = refl; left = refl }
 

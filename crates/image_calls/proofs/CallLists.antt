@@ -6,7 +6,7 @@ use mathlib.Core.Path.{◌≡◌, refl, ap, sym, ◌∙◌}
 use mathlib.Core.List.{List, [], ◌∷◌, ◌++◌, map}
 use lib.Dec.{eqb}
 use borrow.Author.Tests.{eqb-true, le-ltb}
-use Rattle.bits.specs.Choice.{if◌then◌else◌}
+use Rattle.bits.specs.Choice.{when◌then◌else◌}
 use Rattle.bits.proofs.Choice.{by_test, either}
 use Rattle.bits.proofs.Bytes.{byte_most}
 use Rattle.frame.specs.declared.Fault.{Fault}
@@ -64,7 +64,7 @@ step_leaves image event =
 
 -- a refused report leaves the image, any other the image of the service that it leaves
 untouched : (image : Image) → service_of (tried_in image 9 (service_of image)).image ≡ service_of image
-unfolding tried_in if◌then◌else◌
+unfolding tried_in when◌then◌else◌
 untouched image = refl
 
 report_leaves : (image : Image) (event : Event) (buffer : List ℕ)
@@ -109,7 +109,7 @@ frame_alike image frame (reading.Byte byte) is = rw (accepted_is_key (service_of
 frame_alike image frame (reading.Refused fault) is = rw (refused_runs_nothing (service_of image) frame fault is) (refused_alike image fault)
 
 change_alike : (image : Image) (set : CodeSet) → Alike (step_item (service_of image) (changes set)) (answered_by (change_to set image))
-unfolding step_item change_of answered_of shown_to_c if◌then◌else◌
+unfolding step_item change_of answered_of shown_to_c when◌then◌else◌
 change_alike image set =
     let leaves = comes_back _ (stays_in_range.change (service_of image) set (reads_in_range image)) in
     record { leaves = leaves; shows = ap (λ (s : Service). answered (shown_of (change_of (service_of image) set)) no_port (status_in s)) leaves }
@@ -161,7 +161,7 @@ images_follow image (item ∷ more) =
 -- ---- from xiquepazo_make on
 
 made_image : (set : CodeSet) (image : Image) (locks : ℕ) → locks ≤ 15 → made set image locks ≡ image_of (new_service set locks)
-unfolding make_of tried_in if◌then◌else◌
+unfolding make_of tried_in when◌then◌else◌
 made_image set image locks most =
     let e : make_to set image locks ≡ record { image = image_of (new_service set locks); refusal = 0 } = simp (le-ltb _ _ most) in
     ap (λ (refused : Refused). refused.image) e

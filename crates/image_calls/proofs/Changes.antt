@@ -1,7 +1,7 @@
 -- A status call changes nothing and writes the image anew: after it, an image of which one part was changed is what that change leaves.
 -- Assumes nothing.
 use mathlib.Core.Path.{◌≡◌, refl, ap, ◌∙◌}
-use Rattle.bits.specs.Choice.{if◌then◌else◌}
+use Rattle.bits.specs.Choice.{when◌then◌else◌}
 use Rattle.translation.specs.declared.CodeSet.{CodeSet}
 use Rattle.translation.specs.Translation.{unmarked_of}
 use Rattle.state.specs.declared.Service.{Service}
@@ -20,7 +20,7 @@ use Rattle.image_calls.specs.Exports.{answered_nothing, shown_to_c, changed_by, 
 use Rattle.image_calls.proofs.ExportLaws.{tags_recognised}
 
 status_writes : (image other : Image) → answered_nothing (step_in image (Call 0x02 0 0)) ≡ changed_by other (answered_of (service_of image) Nothing)
-unfolding step_in step_of call_of status_of answered_of shown_to_c if◌then◌else◌
+unfolding step_in step_of call_of status_of answered_of shown_to_c when◌then◌else◌
 status_writes image other = refl
 
 -- a status call writes the service that its image means, whichever image the call began with

@@ -7,7 +7,7 @@ use mathlib.Core.List.{List}
 use lib.Dec.{eqb, ltb}
 use lib.ListN.{length}
 use borrow.Author.Tests.{eqb-true, le-ltb, lt-ltb}
-use Rattle.bits.specs.Choice.{if◌then◌else◌}
+use Rattle.bits.specs.Choice.{when◌then◌else◌}
 use Rattle.bits.proofs.Choice.{by_test, either}
 use Rattle.frame.specs.declared.Fault.TheVariants.{Start, Parity, Stop}
 use Rattle.answers.specs.declared.Refusal.TheVariants as refusal
@@ -44,11 +44,11 @@ use Rattle.image_calls.proofs.Beside.{left_on, on_image}
 abbrev told : Image → Image → ℕ → ℕ → ℕ → Changed
 told image left ans word sent =
     let shown = shown_with left.flags ans word sent in
-    if ltb 0x7F ans then record { image = image; shown = shown } else record { image = left; shown = shown }
+    when ltb 0x7F ans then record { image = image; shown = shown } else record { image = left; shown = shown }
 
 told_tagged : (image : Image) (event : Recognised) →
     let ran = ran_of (service_of image) event in told image (image_of ran.service) ran.ans ran.word ran.sent ≡ tagged_in image event
-unfolding image_of refused_in step_in shown_to_c step_of call_of answered_of if◌then◌else◌
+unfolding image_of refused_in step_in shown_to_c step_of call_of answered_of when◌then◌else◌
 told_tagged image recognised-as.Unknown = refl
 told_tagged image (recognised-as.Event event) = refl
 
@@ -73,13 +73,13 @@ module _ (image : Image) (event : Recognised) (ran : Ran) (is : ran ≡ ran_of (
       ∙ told_tagged image event
 
   pub refused_event : 0x7F < ran.ans → record { image = image; shown = shown_by } ≡ tagged_in image event
-  unfolding if◌then◌else◌
+  unfolding when◌then◌else◌
   refused_event h =
       let found : record { image = image; shown = shown_by } ≡ told image left ran.ans ran.word ran.sent = simp (lt-ltb 0x7F ran.ans h) in
       found ∙ as_told
 
   pub accepted_event : ran.ans ≤ 0x7F → record { image = left; shown = shown_by } ≡ tagged_in image event
-  unfolding if◌then◌else◌
+  unfolding when◌then◌else◌
   accepted_event h =
       let found : record { image = left; shown = shown_by } ≡ told image left ran.ans ran.word ran.sent = simp (le-ltb 0x7F ran.ans h) in
       found ∙ as_told
@@ -101,7 +101,7 @@ left_by image outcome = let changed = changed_by image outcome in record { image
 
 pub tried_by : (image : Image) (after : Service) (sent : ℕ) (answer : Answer)
     → left_by image (record { service = after; answer = answer; sent = sent }) ≡ tried_in image (refusal_in (ans_of answer)) after
-unfolding shown_to_c tried_in if◌then◌else◌
+unfolding shown_to_c tried_in when◌then◌else◌
 tried_by image after sent answer.Nothing = refl
 tried_by image after sent (answer.Put word) = refl
 tried_by image after sent (answer.Dropped word) = refl
@@ -157,7 +157,7 @@ module _ (image : Image) (tagged : Tagged) (buffer : List ℕ) where
 
   pub short_report : (event : Recognised) → is_unknown event ≡ false → length buffer < report_length
       → Reports event (record { image = image; refusal = 9 }) buffer
-  unfolding tried_in if◌then◌else◌
+  unfolding tried_in when◌then◌else◌
   short_report recognised-as.Unknown is short = absurd (true≢false is)
   short_report (recognised-as.Event event) is short =
       let refused = short_refused (service_of image) event buffer short in

@@ -8,7 +8,7 @@ use mathlib.Core.List.{List}
 use borrow.Author.Tests.{lt-ltb}
 use lib.Dec.{ltb}
 use lib.ListN.{length}
-use Rattle.bits.specs.Choice.{if◌then◌else◌}
+use Rattle.bits.specs.Choice.{when◌then◌else◌}
 use Rattle.bits.proofs.Choice.{by_test}
 use Rattle.frame.specs.declared.Reading.{Reading}
 use Rattle.frame.specs.declared.Reading.TheVariants as reading
@@ -35,7 +35,7 @@ use Rattle.image_calls.specs.PortCalls.{port_to}
 use Rattle.image_calls.specs.ExportLaws.{TagsRecognised, Leaves, UnknownRefused}
 
 pub tags_recognised : TagsRecognised
-unfolding recognised if◌then◌else◌
+unfolding recognised when◌then◌else◌
 tags_recognised (Key byte) = refl
 tags_recognised (Call function a b) = refl
 tags_recognised Poll = refl
@@ -84,7 +84,7 @@ short_leaves image recognised-as.Unknown buffer short = refl
 short_leaves image (recognised-as.Event event) buffer short = (short_refused (service_of image) event buffer short).unwritten
 
 make_leaves : (set : CodeSet) (image : Image) (bits : ℕ) → 15 < bits → make_to set image bits ≡ record { image = image; refusal = 1 }
-unfolding make_of tried_in if◌then◌else◌
+unfolding make_of tried_in when◌then◌else◌
 make_leaves set image bits above = simp (lt-ltb _ _ above)
 
 pub leaves : Leaves

@@ -5,7 +5,7 @@ use Prim.Native.Nat.{ℕ}
 use mathlib.Core.Path.{◌≡◌, refl, ap, sym, ◌∙◌}
 use mathlib.Core.Bool.{false}
 use lib.Dec.{ltb}
-use Rattle.bits.specs.Choice.{if◌then◌else◌}
+use Rattle.bits.specs.Choice.{when◌then◌else◌}
 use Rattle.controller.specs.declared.Controller.{Controller}
 use Rattle.controller.specs.declared.PortEvent.{PortEvent}
 use Rattle.controller.specs.declared.PortRefusal.{PortRefusal}
@@ -49,7 +49,7 @@ nothing_fed image controller =
 
 -- an outcome that is no refusal leaves its own image
 accepted_alike : (image other : Image) (outcome : Outcome) → ltb 0x7F (shown_to_c outcome).ans ≡ false → changed_by image outcome ≡ changed_by other outcome
-unfolding if◌then◌else◌
+unfolding when◌then◌else◌
 accepted_alike image other outcome accepted = simp accepted
 
 key_shown : (service : Service) (byte : ℕ) → ltb 0x7F (shown_to_c (step_of service (Key byte))).ans ≡ false
@@ -67,7 +67,7 @@ key_fed image controller byte =
 
 pub turned_away_lem : (image : Image) (controller : Controller) (refusal : PortRefusal)
     → refused_in image (port_refusal_number refusal) ≡ changed_by image (answered_of (with_controller (service_of image) controller) (Refused (Port refusal)))
-unfolding refused_in answered_of shown_to_c if◌then◌else◌ byte17_of byte18_of byte96_of byte97_of
+unfolding refused_in answered_of shown_to_c when◌then◌else◌ byte17_of byte18_of byte96_of byte97_of
 turned_away_lem image controller Busy = refl
 turned_away_lem image controller Command = refl
 turned_away_lem image controller Unawaited = refl

@@ -8,7 +8,7 @@ use mathlib.Core.Bool.{false}
 use mathlib.Core.List.{List, ◌∷◌, map}
 use lib.Dec.{eqb}
 use lib.ListN.{length, drop, length-drop}
-use Rattle.bits.specs.Choice.{if◌then◌else◌}
+use Rattle.bits.specs.Choice.{when◌then◌else◌}
 use Rattle.events.specs.declared.Event.{Event}
 use Rattle.events.specs.declared.Event.TheVariants.{Key, Call, Poll, TimeOut, Empty, Restart, Scan}
 use Rattle.pack.specs.declared.Read.{Read}
@@ -54,7 +54,7 @@ some_tag Restart = refl
 some_tag (Scan byte) = refl
 
 as_parsed : (readings : ℕ) (pack : List ℕ) (start : ℕ) → events_by readings pack start ≡ map written (parse_by readings pack start).events
-unfolding parse_by if◌then◌else◌
+unfolding parse_by when◌then◌else◌
 as_parsed zero pack start = refl
 as_parsed (suc readings) pack start =
     by_kind (read_at pack start)

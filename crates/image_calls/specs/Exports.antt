@@ -2,7 +2,7 @@
 -- leaves the image as it was, number for number.
 -- Assumes nothing.
 use Rattle.std.specs.Prelude.{ℕ, ◌+◌, Bool, true, false, List, [], eqb, ltb}
-use Rattle.bits.specs.Choice.{if◌then◌else◌}
+use Rattle.bits.specs.Choice.{when◌then◌else◌}
 use Rattle.frame.specs.declared.Reading.{Reading}
 use Rattle.frame.specs.declared.Reading.TheVariants as reading
 use Rattle.frame.specs.Frame.{read_frame, fault_number}
@@ -86,12 +86,12 @@ shown_to_c outcome = shown_with (flag_bytes_of outcome.service) (ans_of outcome.
 -- the image of the service after an event; a refusal, 80 plus its number, leaves the image
 abbrev pub changed_by : Image → Outcome → Changed
 changed_by image outcome =
-    if ltb 0x7F (shown_to_c outcome).ans then record { image = image; shown = shown_to_c outcome }
+    when ltb 0x7F (shown_to_c outcome).ans then record { image = image; shown = shown_to_c outcome }
     else record { image = image_of outcome.service; shown = shown_to_c outcome }
 
 -- the controller's numbers after an event: as they are read, and new after R
 abbrev pub controller_after : Event → ControllerImage → ControllerImage
-controller_after event controller = if is_restart event then new_controller_image else controller_image (controller_at controller)
+controller_after event controller = when is_restart event then new_controller_image else controller_image (controller_at controller)
 
 unfoldable pub step_in : Image → Event → Changed
 step_in image event = changed_by image (step_of (service_of image) event)
@@ -115,13 +115,13 @@ written (Scan byte) = record { tag = tag_of (Scan byte); a = byte; b = 0; c = 0 
 -- the events by the capitals that a pack has for them
 unfoldable pub recognised : Tagged → Recognised
 recognised tagged =
-    if eqb tagged.tag key_tag then recognised-as.Event (Key tagged.a)
-    else if eqb tagged.tag call_tag then recognised-as.Event (Call tagged.a tagged.b tagged.c)
-    else if eqb tagged.tag poll_tag then recognised-as.Event Poll
-    else if eqb tagged.tag time_out_tag then recognised-as.Event TimeOut
-    else if eqb tagged.tag empty_tag then recognised-as.Event Empty
-    else if eqb tagged.tag restart_tag then recognised-as.Event Restart
-    else if eqb tagged.tag scan_tag then recognised-as.Event (Scan tagged.a)
+    when eqb tagged.tag key_tag then recognised-as.Event (Key tagged.a)
+    else when eqb tagged.tag call_tag then recognised-as.Event (Call tagged.a tagged.b tagged.c)
+    else when eqb tagged.tag poll_tag then recognised-as.Event Poll
+    else when eqb tagged.tag time_out_tag then recognised-as.Event TimeOut
+    else when eqb tagged.tag empty_tag then recognised-as.Event Empty
+    else when eqb tagged.tag restart_tag then recognised-as.Event Restart
+    else when eqb tagged.tag scan_tag then recognised-as.Event (Scan tagged.a)
     else recognised-as.Unknown
 
 abbrev pub is_unknown : Recognised → Bool
@@ -134,7 +134,7 @@ event_run recognised-as.Unknown = Call 0xFF 0 0
 event_run (recognised-as.Event event) = event
 
 abbrev pub ans_in : Answer → Bool → ℕ
-ans_in answer unknown = if unknown then 0x86 else ans_of answer
+ans_in answer unknown = when unknown then 0x86 else ans_of answer
 
 abbrev pub ran_of : Service → Recognised → Ran
 ran_of service event =
@@ -164,7 +164,7 @@ frame_to image frame = framed_in image (read_frame frame)
 -- the image of what a call left, or refused by its number
 unfoldable pub tried_in : Image → ℕ → Service → Refused
 tried_in image refusal after =
-    if eqb refusal 0 then record { image = image_of after; refusal = 0 } else record { image = image; refusal = refusal }
+    when eqb refusal 0 then record { image = image_of after; refusal = 0 } else record { image = image; refusal = refusal }
 
 abbrev pub make_to : CodeSet → Image → ℕ → Refused
 make_to set image bits = tried_in image (make_of set bits).refusal (make_of set bits).service

@@ -1,7 +1,7 @@
 -- What holds of a pack that C reads. Readings.antt of proofs/ proves each sentence.
 -- Assumes nothing.
 use Rattle.std.specs.Prelude.{ℕ, zero, suc, ◌+◌, ◌≡◌, List, [], ◌∷◌, map, eqb, length}
-use Rattle.bits.specs.Choice.{if◌then◌else◌}
+use Rattle.bits.specs.Choice.{when◌then◌else◌}
 use Rattle.events.specs.declared.Event.{Event}
 use Rattle.pack.specs.declared.Read.TheVariants as read
 use Rattle.pack.specs.Reading.{read_at}
@@ -25,7 +25,7 @@ abbrev pub events_by : ℕ → List ℕ → ℕ → List Tagged
 events_by zero pack start = []
 events_by (suc readings) pack start =
     let reading = read_to pack start in
-    if eqb reading.event.tag 0 then [] else reading.event ∷ events_by readings pack reading.next
+    when eqb reading.event.tag 0 then [] else reading.event ∷ events_by readings pack reading.next
 
 -- from the first byte on they are the pack's, all of them
 abbrev pub PackReadWhole : Type 0

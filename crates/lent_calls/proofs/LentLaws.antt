@@ -3,7 +3,7 @@
 use Prim.Native.Nat.{ℕ}
 use mathlib.Core.Path.{◌≡◌, refl, ap, ◌∙◌}
 use borrow.Author.Tests.{lt-ltb, le-ltb}
-use Rattle.bits.specs.Choice.{if◌then◌else◌}
+use Rattle.bits.specs.Choice.{when◌then◌else◌}
 use Rattle.bits.proofs.Choice.{by_test}
 use Rattle.controller.specs.declared.Buffer.{Buffer}
 use Rattle.controller.specs.declared.Buffer.TheVariants as buffer
@@ -28,7 +28,7 @@ use Rattle.lent_calls.specs.Lent.{made_in, answered_by, event_in, frame_in, chan
 use Rattle.lent_calls.specs.LentLaws.{Makes, RefusedLeaves, Frames, Changes, PortEvents, ShortUntouched, RefusedReportLeaves}
 
 pub makes : Makes
-unfolding made_in make_of if◌then◌else◌
+unfolding made_in make_of when◌then◌else◌
 makes = record {
   refused = λ set service bits above. simp (lt-ltb _ _ above);
   made = λ set service bits within. simp (le-ltb _ _ within);

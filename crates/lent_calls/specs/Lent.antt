@@ -1,7 +1,7 @@
 -- What a lent call leaves in the service, and what it returns: the core's outcome, in two parts.
 -- Assumes nothing.
 use Rattle.std.specs.Prelude.{ℕ, List, [], eqb}
-use Rattle.bits.specs.Choice.{if◌then◌else◌}
+use Rattle.bits.specs.Choice.{when◌then◌else◌}
 use Rattle.translation.specs.declared.CodeSet.{CodeSet}
 use Rattle.controller.specs.declared.PortEvent.{PortEvent}
 use Rattle.state.specs.declared.Service.{Service}
@@ -26,7 +26,7 @@ use Rattle.lent_calls.specs.declared.Tried.{Tried}
 -- a service that was made replaces the one lent; a refusal leaves that one as it was
 abbrev pub tried_of : Service → Made → Tried
 tried_of service made =
-    if eqb made.refusal 0 then record { service = made.service; refusal = 0 }
+    when eqb made.refusal 0 then record { service = made.service; refusal = 0 }
     else record { service = service; refusal = made.refusal }
 
 unfoldable pub made_in : CodeSet → Service → ℕ → Tried

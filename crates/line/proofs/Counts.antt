@@ -4,7 +4,7 @@ use Prim.Native.Nat.{ℕ, ◌+◌, ◌<◌, ◌≤◌}
 use native.Mathlib.Omega.{arith}
 use mathlib.Core.Path.{◌≡◌, refl, ap}
 use borrow.Author.Tests.{lt-ltb}
-use Rattle.bits.specs.Choice.{if◌then◌else◌}
+use Rattle.bits.specs.Choice.{when◌then◌else◌}
 use Rattle.line.specs.State.{new_line, sent_in, sent_of, unchanged_of}
 use Rattle.line.specs.Poll.{one_more_of, counted_of, send_of, start_of, poll_of}
 use Rattle.line.specs.Reply.{operand_of, mark_resend_of, ended_of, failed_of, reply_in, acknowledge_of, resend_of, time_out_of}
@@ -51,7 +51,7 @@ module _ (line : Line) (h : Within line) where
   unchanged answer n = stands line answer (sent_of line) n refl (carried_in line.phase)
 
   pub poll_counts : (led : ℕ) → Counts line (poll_of line led)
-  unfolding start_of send_of counted_of one_more_of sent_in if◌then◌else◌
+  unfolding start_of send_of counted_of one_more_of sent_in when◌then◌else◌
   poll_counts led =
       poll_cases (Counts line) line led (unchanged Quiet refl)
       (λ turn kind value e n. record { shown = simp (sent_at_lem line (Idle turn) e); most = omega arith; carried = refl })
@@ -96,7 +96,7 @@ true_counts line h =
     }
 
 pub send_counts : SendCounts
-unfolding unchanged_of start_of send_of counted_of one_more_of if◌then◌else◌
+unfolding unchanged_of start_of send_of counted_of one_more_of when◌then◌else◌
 send_counts line led h =
     poll_cases (λ (o : Outcome). sends_in o.line.phase ≡ sends_in line.phase + sends_by o.answer) line led (omega arith)
     (λ turn kind value e n. simp e)
@@ -108,7 +108,7 @@ send_counts line led h =
 -- the line that FE or T leaves before the third send
 again : (line marked : Line) (command : Command) → line.phase ≡ Awaiting command → command.sends < 3 →
     (reply_in line (failed_of marked) line.phase).line.phase ≡ Ready command
-unfolding reply_in failed_of if◌then◌else◌
+unfolding reply_in failed_of when◌then◌else◌
 again line marked command e b = simp (e, lt-ltb command.sends 3 b)
 
 pub sends_again : SendsAgain

@@ -3,7 +3,7 @@
 use Prim.Native.Nat.{ℕ}
 use mathlib.Core.Path.{◌≡◌, refl}
 use mathlib.Core.Logic.{⊎_elim}
-use Rattle.bits.specs.Choice.{if◌then◌else◌}
+use Rattle.bits.specs.Choice.{when◌then◌else◌}
 use Rattle.line.specs.State.{new_line, wait_rate_of, unchanged_of}
 use Rattle.line.specs.Poll.{waiting_of, unhandled_of, first_of, in_turn_of, next_of, one_more_of, due_of, counted_of, send_of, start_of, start_next_of, idle_poll_of, poll_in, poll_of}
 use Rattle.line.specs.Reply.{operand_of, mark_resend_of, ended_of, failed_of, reply_in, acknowledge_of, resend_of, time_out_of}
@@ -61,11 +61,11 @@ operand_stays line restart = to_idle line.phase _
 operand_stays line (wait_rate rate) = keeps_itself line.phase
 
 pub starts_with : StartsWith
-unfolding poll_of poll_in idle_poll_of start_next_of start_of send_of counted_of one_more_of if◌then◌else◌
+unfolding poll_of poll_in idle_poll_of start_next_of start_of send_of counted_of one_more_of when◌then◌else◌
 starts_with line turn led kind value e n = simp (e, n)
 
 pub led_starts : LedStarts
-unfolding next_of unhandled_of in_turn_of first_of waiting_of if◌then◌else◌
+unfolding next_of unhandled_of in_turn_of first_of waiting_of when◌then◌else◌
 led_starts line turn led due first = rw due (⊎_elim (λ now. rw now refl) (λ none. rw none (alone turn)) first)
   where
     alone : (turn : Kind) → in_turn_of turn (Start Led led) (waiting_of None) ≡ Start Led led
@@ -73,5 +73,5 @@ led_starts line turn led due first = rw due (⊎_elim (λ now. rw now refl) (λ 
     alone Rate = refl
 
 pub sends_operand : SendsOperand
-unfolding poll_of poll_in send_of due_of if◌then◌else◌
+unfolding poll_of poll_in send_of due_of when◌then◌else◌
 sends_operand line led command e t = simp (e, t)

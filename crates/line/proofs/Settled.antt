@@ -6,7 +6,7 @@ use mathlib.Core.Bool.{false}
 use mathlib.Core.List.{[], ◌∷◌}
 use mathlib.Core.Path.{◌≡◌, refl}
 use borrow.Author.Tests.{le-ltb, eq-eqb}
-use Rattle.bits.specs.Choice.{if◌then◌else◌}
+use Rattle.bits.specs.Choice.{when◌then◌else◌}
 use Rattle.line.specs.State.{wait_rate_of, is_led_of, led_runs_in, led_runs_of, is_value_of, unchanged_of}
 use Rattle.line.specs.Poll.{waiting_of, unhandled_of, first_of, in_turn_of, next_of, first_byte_of, due_of, counted_of, send_of, start_of, poll_of}
 use Rattle.line.specs.Reply.{mark_acknowledged_of, mark_abandoned_of, operand_of, mark_resend_of, mark_done_of, ended_of, failed_of, reply_in, acknowledge_of, resend_of, time_out_of}
@@ -28,7 +28,7 @@ use Rattle.line.proofs.Cases.{poll_cases, acknowledge_cases, failed_cases}
 
 gives_up_at : (line marked : Line) (command : Command) → line.phase ≡ Awaiting command → command.kind ≡ Led → 3 ≤ command.sends →
     Abandons command.value (reply_in line (failed_of marked) line.phase)
-unfolding reply_in failed_of ended_of is_led_of led_runs_of led_runs_in if◌then◌else◌
+unfolding reply_in failed_of ended_of is_led_of led_runs_of led_runs_in when◌then◌else◌
 gives_up_at line marked command e k b =
     simp (e, le-ltb command.sends 3 b) (record { answer = refl; settled = record { handled = simp k; rests = refl } })
 
@@ -52,7 +52,7 @@ alone Rate (Value known) kind value e = cc
 
 next_rate : (value : ℕ) (line : Line) → line.handled ≡ Value value → (turn kind : Kind) (operand : ℕ) →
     next_of line turn value ≡ Start kind operand → kind ≡ Rate
-unfolding next_of unhandled_of is_value_of if◌then◌else◌
+unfolding next_of unhandled_of is_value_of when◌then◌else◌
 next_rate value line h turn kind operand e =
     alone turn line.rate kind operand (simp (h, eq-eqb value value refl) at e)
 
@@ -72,11 +72,11 @@ module _ (value : ℕ) (line : Line) (s : Settled value line) where
   -- and its end leaves the value that is handled
   ended_settled : (marked : Line) (command : Command) → marked.handled ≡ line.handled → is_led_of command.kind ≡ false →
       Settled value (ended_of marked command)
-  unfolding ended_of led_runs_of led_runs_in if◌then◌else◌
+  unfolding ended_of led_runs_of led_runs_in when◌then◌else◌
   ended_settled marked command m r = record { handled = simp (r, m) s.handled; rests = refl }
 
   pub acknowledge_settled : Settled value (acknowledge_of line).line
-  unfolding unchanged_of mark_acknowledged_of mark_done_of operand_of led_runs_of led_runs_in if◌then◌else◌
+  unfolding unchanged_of mark_acknowledged_of mark_done_of operand_of led_runs_of led_runs_in when◌then◌else◌
   acknowledge_settled =
       acknowledge_cases (λ (o : Outcome). Settled value o.line) line s
       (λ command e t. ended_settled _ command (simp (rate_runs command e)) (rate_runs command e))
@@ -124,7 +124,7 @@ not_started_again line command e k b inputs h =
 -- ---- a settled value is not started
 
 pub no_second_start : NoSecondStart
-unfolding unchanged_of start_of send_of due_of first_byte_of if◌then◌else◌
+unfolding unchanged_of start_of send_of due_of first_byte_of when◌then◌else◌
 no_second_start value line idle i s =
     poll_cases (λ (o : Outcome). o.answer ≡ Send 0xED → ⊥) line value
     (λ q. let z : ◌≡◌ {A = ℕ} 0 1 = cc in omega arith)

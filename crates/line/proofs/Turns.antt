@@ -4,7 +4,7 @@ use Prim.Native.Nat.{ℕ, ◌+◌, ◌-◌, ◌≤◌}
 use native.Mathlib.Omega.{arith}
 use mathlib.Core.Bool.{Bool, true, false}
 use mathlib.Core.Path.{◌≡◌, refl, ap, sym, ◌∙◌}
-use Rattle.bits.specs.Choice.{if◌then◌else◌}
+use Rattle.bits.specs.Choice.{when◌then◌else◌}
 use Rattle.bits.proofs.Choice.{either}
 use Rattle.line.specs.State.{new_line, wait_rate_of, is_led_of, other_of, is_value_of, unchanged_of}
 use Rattle.line.specs.Poll.{waiting_of, unhandled_of, first_of, in_turn_of, next_of, one_more_of, first_byte_of, due_of, counted_of, send_of, rate_left_of, start_of, poll_of}
@@ -67,7 +67,7 @@ module _ (line : Line) where
       record { left = simp e (omega (arith, k.each)); turn = simp e; rate = refl; started = simp e }
 
   acknowledge_goes : GoesOn line (acknowledge_of line)
-  unfolding unchanged_of mark_acknowledged_of ended_of operand_of if◌then◌else◌
+  unfolding unchanged_of mark_acknowledged_of ended_of operand_of when◌then◌else◌
   acknowledge_goes =
       acknowledge_cases (GoesOn line) line (record { left = omega arith; turn = refl; rate = refl; started = refl })
       (λ command e t.
@@ -101,13 +101,13 @@ module _ (line : Line) (h : Begun line) where
       omega arith
 
   begun_poll : (led : ℕ) → Within line → Begun (poll_of line led).line
-  unfolding unchanged_of start_of send_of counted_of one_more_of if◌then◌else◌
+  unfolding unchanged_of start_of send_of counted_of one_more_of when◌then◌else◌
   begun_poll led w =
       poll_cases (λ (o : Outcome). Begun o.line) line led h (λ turn kind value e n. omega arith)
       (λ command e. begun_send command e w)
 
   begun_acknowledge : Begun (acknowledge_of line).line
-  unfolding unchanged_of ended_of operand_of if◌then◌else◌
+  unfolding unchanged_of ended_of operand_of when◌then◌else◌
   begun_acknowledge =
       acknowledge_cases (λ (o : Outcome). Begun o.line) line h (λ command e t. tt)
       (λ command e t. let k : 1 ≤ command.sent = rw e at h in k)
@@ -131,8 +131,8 @@ unfolding new_line
 stays_begun = record { new = tt; input = λ line input w h. begun_after line h input w }
 
 -- a first byte that was sent has two sends left, and the operand three
-five_of : (operand : Bool) (sends sent : ℕ) → 1 ≤ sent → sent ≤ sends + (if operand then 3 else 0) → 3 - sends + (if operand then 0 else 3) ≤ 5
-unfolding if◌then◌else◌
+five_of : (operand : Bool) (sends sent : ℕ) → 1 ≤ sent → sent ≤ sends + (when operand then 3 else 0) → 3 - sends + (when operand then 0 else 3) ≤ 5
+unfolding when◌then◌else◌
 five_of true sends sent b c = omega arith
 five_of false sends sent b c = omega arith
 
@@ -231,19 +231,19 @@ send_not_first kind line command e w h f =
 -- the other kind's command, which starts in its turn, has six bytes and passes the turn
 module _ (line : Line) (turn : Kind) (value : ℕ) (idle : line.phase ≡ Idle turn) where
   led_before : turn ≡ Led → sends_by (start_of line Led value).answer + ahead_of Rate (start_of line Led value).line ≤ ahead_of Rate line
-  unfolding start_of send_of counted_of one_more_of other_of if◌then◌else◌
+  unfolding start_of send_of counted_of one_more_of other_of when◌then◌else◌
   led_before t = simp (idle, t) (omega arith)
 
   rate_before : turn ≡ Rate → sends_by (start_of line Rate value).answer + ahead_of Led (start_of line Rate value).line ≤ ahead_of Led line
-  unfolding start_of send_of counted_of one_more_of other_of if◌then◌else◌
+  unfolding start_of send_of counted_of one_more_of other_of when◌then◌else◌
   rate_before t = simp (idle, t) (omega arith)
 
   led_not_rate : SendsFirst Rate (start_of line Led value) → ⊥
-  unfolding start_of send_of due_of first_byte_of if◌then◌else◌
+  unfolding start_of send_of due_of first_byte_of when◌then◌else◌
   led_not_rate f = let z : ◌≡◌ {A = ℕ} 0xED 0xF3 = cc f.answer in omega arith
 
   rate_not_led : SendsFirst Led (start_of line Rate value) → ⊥
-  unfolding start_of send_of due_of first_byte_of if◌then◌else◌
+  unfolding start_of send_of due_of first_byte_of when◌then◌else◌
   rate_not_led f = let z : ◌≡◌ {A = ℕ} 0xF3 0xED = cc f.answer in omega arith
 
 start_for_rate : (line : Line) (rate led : ℕ) (turn started : Kind) (value : ℕ) → line.phase ≡ Idle turn → line.rate ≡ Value rate →
@@ -256,7 +256,7 @@ start_for_rate line rate led turn Rate value idle w n =
 
 start_for_led : (line : Line) (led : ℕ) (turn started : Kind) (value : ℕ) → line.phase ≡ Idle turn → is_value_of line.handled led ≡ false →
     next_of line turn led ≡ Start started value → AtPoll Led led line (start_of line started value)
-unfolding next_of unhandled_of start_of send_of counted_of is_led_of if◌then◌else◌
+unfolding next_of unhandled_of start_of send_of counted_of is_led_of when◌then◌else◌
 start_for_led line led turn Led value idle w n = begins (ap (start_of line Led) (led_value_now line turn led value n))
 start_for_led line led turn Rate value idle w n =
     stays w (rate_not_led line turn value idle) (rate_before line turn value idle (before_led turn led (waiting_of line.rate) value (rw w at n)))

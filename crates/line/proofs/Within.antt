@@ -6,7 +6,7 @@ use mathlib.Core.Bool.{Bool}
 use mathlib.Core.List.{List, [], ◌∷◌}
 use mathlib.Core.Path.{◌≡◌}
 use borrow.Author.Tests.{lt-ltb}
-use Rattle.bits.specs.Choice.{if◌then◌else◌}
+use Rattle.bits.specs.Choice.{when◌then◌else◌}
 use Rattle.bits.proofs.Choice.{either}
 use Rattle.line.specs.State.{new_line, wait_rate_of, unchanged_of}
 use Rattle.line.specs.Poll.{one_more_of, counted_of, send_of, start_of, poll_of}
@@ -19,11 +19,11 @@ use Rattle.line.specs.declared.Outcome.{Outcome}
 use Rattle.line.proofs.Cases.{poll_cases, acknowledge_cases, failed_cases}
 
 pub one_more : (count most : ℕ) → count < most → one_more_of count most ≡ count + 1
-unfolding one_more_of if◌then◌else◌
+unfolding one_more_of when◌then◌else◌
 one_more count most h = simp (lt-ltb count most h)
 
 -- the share of the first byte in a command's count
-pub earlier : (operand : Bool) → (if operand then 3 else 0) ≤ 3
+pub earlier : (operand : Bool) → (when operand then 3 else 0) ≤ 3
 earlier operand = either (λ (n : ℕ). n ≤ 3) operand 3 0 (omega arith) (omega arith)
 
 -- a send that is left for its byte is left for its command
@@ -48,7 +48,7 @@ module _ (line : Line) where
       (λ command e. send_within line command (rw e at h))
 
   pub acknowledge_within : Within line → Within (acknowledge_of line).line
-  unfolding unchanged_of ended_of operand_of if◌then◌else◌
+  unfolding unchanged_of ended_of operand_of when◌then◌else◌
   acknowledge_within h =
       acknowledge_cases (λ (o : Outcome). Within o.line) line h (λ command e t. tt)
       (λ command e t.

@@ -1,7 +1,7 @@
 -- What the line guarantees whatever comes in, each law a proposition of its own, for proofs/ to prove.
 -- Assumes nothing.
 use Rattle.std.specs.Prelude.{ℕ, ◌+◌, ◌<◌, ◌≤◌, true, false, List, [], ◌∷◌, ◌⊎◌, ◌≡◌}
-use Rattle.bits.specs.Choice.{if◌then◌else◌}
+use Rattle.bits.specs.Choice.{when◌then◌else◌}
 use Rattle.line.specs.State.{new_line, sent_of, led_runs_of, is_value_of}
 use Rattle.line.specs.Poll.{next_of, poll_of}
 use Rattle.line.specs.Reply.{acknowledge_of, resend_of, time_out_of}
@@ -23,7 +23,7 @@ use Rattle.line.specs.declared.Outcome.{Outcome}
 -- the byte under way was sent at most so often; what the command sent besides is at most three sends of its first byte
 pub record Counted (command : Command) (most : ℕ) : Type 0 where
   pub each : command.sends ≤ most
-  pub all : command.sent ≤ command.sends + (if command.operand then 3 else 0)
+  pub all : command.sent ≤ command.sends + (when command.operand then 3 else 0)
 
 -- a byte that is still to be sent has a send left
 abbrev pub WithinIn : Phase → Type 0

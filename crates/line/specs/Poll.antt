@@ -1,7 +1,7 @@
 -- What a poll sends: document 01, "The line", up to the send; document 02, W-208, for the turns.
 -- Assumes nothing.
 use Rattle.std.specs.Prelude.{ℕ, ◌+◌, false, ltb}
-use Rattle.bits.specs.Choice.{if◌then◌else◌}
+use Rattle.bits.specs.Choice.{when◌then◌else◌}
 use Rattle.line.specs.State.{is_value_of, unchanged_of}
 use Rattle.line.specs.declared.Kind.{Kind}
 use Rattle.line.specs.declared.Kind.TheVariants.{Led, Rate}
@@ -23,7 +23,7 @@ waiting_of (Value rate) = Start Rate rate
 
 -- so is a LED value that differs from the last handled
 unfoldable pub unhandled_of : Setting → ℕ → Next
-unhandled_of handled led = if is_value_of handled led then Nothing else Start Led led
+unhandled_of handled led = when is_value_of handled led then Nothing else Start Led led
 
 -- the first of two commands, or the only one
 unfoldable pub first_of : Next → Next → Next
@@ -41,7 +41,7 @@ next_of line turn led = in_turn_of turn (unhandled_of line.handled led) (waiting
 
 -- a count of sends, which never passes its limit
 unfoldable pub one_more_of : ℕ → ℕ → ℕ
-one_more_of count most = if ltb count most then count + 1 else most
+one_more_of count most = when ltb count most then count + 1 else most
 
 unfoldable pub first_byte_of : Kind → ℕ
 first_byte_of Led = 0xED
@@ -49,7 +49,7 @@ first_byte_of Rate = 0xF3
 
 -- the byte under way
 unfoldable pub due_of : Command → ℕ
-due_of command = if command.operand then command.value else first_byte_of command.kind
+due_of command = when command.operand then command.value else first_byte_of command.kind
 
 -- a send counts for its byte, three in all, and for its command, six in all
 unfoldable pub counted_of : Command → Command

@@ -1,7 +1,7 @@
 -- What FA, FE and a time-out do: document 01, "The line", from the reply on, with the marks of byte 97 that they set.
 -- Assumes nothing.
 use Rattle.std.specs.Prelude.{true, ltb}
-use Rattle.bits.specs.Choice.{if◌then◌else◌}
+use Rattle.bits.specs.Choice.{when◌then◌else◌}
 use Rattle.line.specs.State.{is_led_of, other_of, in_phase_of, with_marks_of, unchanged_of}
 use Rattle.line.specs.declared.Command.{Command}
 use Rattle.line.specs.declared.Phase.{Phase}
@@ -36,7 +36,7 @@ mark_resend_of line =
 -- bits 0 to 2: the value of a LED command that is done
 unfoldable pub mark_done_of : Line → Command → Line
 mark_done_of line command =
-    if is_led_of command.kind then
+    when is_led_of command.kind then
     with_marks_of line
     (record {
       done = command.value;
@@ -62,7 +62,7 @@ unfoldable pub ended_of : Line → Command → Line
 ended_of line command =
     record {
       phase = Idle (other_of command.kind);
-      handled = if is_led_of command.kind then Value command.value else line.handled;
+      handled = when is_led_of command.kind then Value command.value else line.handled;
       rate = line.rate;
       marks = line.marks;
     }
@@ -76,7 +76,7 @@ unfoldable pub acknowledged_of : Line → Command → Outcome
 acknowledged_of line command =
     record {
       line =
-          if command.operand then ended_of (mark_done_of line command) command
+          when command.operand then ended_of (mark_done_of line command) command
           else in_phase_of line (Ready (operand_of command));
       answer = Taken;
       sent = command.sent;
@@ -85,7 +85,7 @@ acknowledged_of line command =
 -- FE or T: the next poll sends the byte again, or after the third send the command is given up
 unfoldable pub failed_of : Line → Command → Outcome
 failed_of line command =
-    if ltb command.sends 3 then
+    when ltb command.sends 3 then
     record { line = in_phase_of line (Ready command); answer = Taken; sent = command.sent }
     else
     record { line = ended_of (mark_abandoned_of line) command; answer = GivenUp; sent = command.sent }

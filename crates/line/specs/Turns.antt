@@ -1,7 +1,7 @@
 -- Turns, document 02, W-208: what a due LED value and a waiting rate wait for. Turns.antt of proofs/ proves each sentence.
 -- Assumes nothing.
 use Rattle.std.specs.Prelude.{ℕ, ◌+◌, ◌-◌, ◌≤◌, false, List, [], ◌∷◌, ◌≡◌}
-use Rattle.bits.specs.Choice.{if◌then◌else◌}
+use Rattle.bits.specs.Choice.{when◌then◌else◌}
 use Rattle.line.specs.State.{new_line, is_led_of, other_of, is_value_of}
 use Rattle.line.specs.Poll.{first_byte_of, start_of, poll_of}
 use Rattle.line.specs.Reply.{acknowledge_of, resend_of, time_out_of}
@@ -23,7 +23,7 @@ use Rattle.line.specs.declared.Outcome.{Outcome}
 
 -- to a command are left: three sends of the byte under way less those made, and three of an operand that is still to come
 abbrev pub left_of : Command → ℕ
-left_of command = 3 - command.sends + (if command.operand then 0 else 3)
+left_of command = 3 - command.sends + (when command.operand then 0 else 3)
 
 abbrev pub left_in : Phase → ℕ
 left_in (Idle turn) = 0
@@ -69,8 +69,8 @@ ElevenAhead = (kind : Kind) (line : Line) → Within line → Begun line → ahe
 -- the LED value started last: that of the LED command that runs, else the last handled
 abbrev pub started_in : Setting → Phase → Setting
 started_in handled (Idle turn) = handled
-started_in handled (Awaiting command) = if is_led_of command.kind then Value command.value else handled
-started_in handled (Ready command) = if is_led_of command.kind then Value command.value else handled
+started_in handled (Awaiting command) = when is_led_of command.kind then Value command.value else handled
+started_in handled (Ready command) = when is_led_of command.kind then Value command.value else handled
 
 abbrev pub started_of : Line → Setting
 started_of line = started_in line.handled line.phase

@@ -7,7 +7,7 @@ use mathlib.Core.List.{List, [], ◌∷◌, ◌++◌, map}
 use lib.ListN.{drop}
 use borrow.Author.Tests.{ltb-true, ltb-false}
 use Rattle.bits.specs.Bits.{bit0, bit4}
-use Rattle.bits.specs.Choice.{if◌then◌else◌}
+use Rattle.bits.specs.Choice.{when◌then◌else◌}
 use Rattle.bits.proofs.Choice.{by_test, either}
 use Rattle.frame.specs.declared.Reading.{Reading}
 use Rattle.frame.specs.declared.Reading.TheVariants.{Byte, Refused}
@@ -227,7 +227,7 @@ is_taken : (service : Service) (controller : Controller) (byte : ℕ) → is_ful
 unfolding step_item port_step_of
 is_taken service controller byte empty enabled =
     let there = with_controller service controller in
-    let says : (port_step_of there (FromKeyboard byte)).response ≡ (if bit0 controller.command then response.Interrupt else response.Accepted) =
+    let says : (port_step_of there (FromKeyboard byte)).response ≡ (when bit0 controller.command then response.Interrupt else response.Accepted) =
     ap (λ (r : Responded). r.response) (accepts controller byte empty enabled) in
     let not_refused : is_refused (port_step_of there (FromKeyboard byte)).response ≡ false =
     ap is_refused says ∙ either (λ (r : Response). is_refused r ≡ false) _ _ _ refl refl in

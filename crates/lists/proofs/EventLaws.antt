@@ -4,7 +4,7 @@
 use Prim.Native.Nat.{ℕ, ◌+◌, ◌≤◌}
 use mathlib.Core.Path.{◌≡◌, refl, ap, sym, ◌∙◌}
 use mathlib.Core.List.{List, [], ◌∷◌, ◌++◌, map}
-use Rattle.bits.specs.Choice.{if◌then◌else◌}
+use Rattle.bits.specs.Choice.{when◌then◌else◌}
 use Rattle.frame.specs.declared.Reading.{Reading}
 use Rattle.frame.specs.declared.Reading.TheVariants.{Byte, Refused}
 use Rattle.frame.specs.Frame.{read_frame}
@@ -109,7 +109,7 @@ whole_after = kept (λ (s : Service). Whole s.queue) whole_next (λ service set 
 
 -- a refused frame shows the count that a refused call shows
 frame_at_most_six : (service : Service) (reading : Reading) → ((e : Event) → (step_of service e).sent ≤ 6) → (on_frame service reading).sent ≤ 6
-unfolding step_of call_of answered_of if◌then◌else◌
+unfolding step_of call_of answered_of when◌then◌else◌
 frame_at_most_six service (Byte byte) six = six (Key byte)
 frame_at_most_six service (Refused fault) six = six (Call 0xFF 0 0)
 
@@ -149,7 +149,7 @@ module _ (service : Service) (earlier : ℕ) (more : List Item) (w : Within serv
       ∙ ap (◌∷◌ (earlier + bytes_shown (shown_of left))) (later _ step.within (sym step.carried ∙ ap (carried_on left.service.line.phase) now))
 
   item_counts : (item : Item) → CountsAt (step_item service item)
-  unfolding step_item change_of answered_of if◌then◌else◌ report_of
+  unfolding step_item change_of answered_of when◌then◌else◌ report_of
   item_counts =
       by_item CountsAt service
       (λ one later. rw (event_shown service one) (event_counts one later))

@@ -7,7 +7,7 @@ use mathlib.Core.List.{List, [], ◌∷◌, ◌++◌, map, append_assoc}
 use lib.Dec.{ltb}
 use native.Mathlib.Omega.{arith}
 use borrow.Author.Tests.{ltb-true, ltb-false, le-ltb}
-use Rattle.bits.specs.Choice.{if◌then◌else◌}
+use Rattle.bits.specs.Choice.{when◌then◌else◌}
 use Rattle.bits.proofs.Choice.{by_test}
 use Rattle.bits.proofs.Tests.{not_both}
 use Rattle.frame.specs.declared.Fault.{Fault}
@@ -49,13 +49,13 @@ none_above_five : (service : Service) (event : Event) → ltb 5 (refusal_in (sho
 none_above_five service event = le-ltb 5 (refusal_in (shown_of (step_of service event)).ans) (omega (arith, at_most_five service event))
 
 pub short_runs_nothing : ShortRunsNothing
-unfolding step_item if◌then◌else◌
+unfolding step_item when◌then◌else◌
 short_runs_nothing service event buffer short =
     let refused = short_refused service event buffer short in
     simp (refused.result, refused.unwritten)
 
 pub long_runs : LongRuns
-unfolding step_item if◌then◌else◌ report_of
+unfolding step_item when◌then◌else◌ report_of
 long_runs service event buffer long =
     simp (long_reported service event buffer long, long_buffer service event buffer long, none_above_five service event)
 
@@ -119,11 +119,11 @@ unfolding port_step_of
 not_refused service event accepted = none_refused _ (responded_of service.controller event).response accepted
 
 pub accepted_at_port : AcceptedAtPort
-unfolding step_item if◌then◌else◌
+unfolding step_item when◌then◌else◌
 accepted_at_port service event accepted = simp (not_refused service event accepted)
 
 pub refused_at_port_lem : RefusedAtPort
-unfolding step_item if◌then◌else◌ answered_of
+unfolding step_item when◌then◌else◌ answered_of
 refused_at_port_lem service event refusal is = ap stepped (refused_port_events service event refusal is) ∙ numbered refusal
   where
     stepped : PortOutcome → Stepped
@@ -184,17 +184,17 @@ record Alike (service : Service) (stepped : Stepped) : Type 0 where
 -- an event shows what it shows, refused or not
 pub event_shown : (service : Service) (event : Event)
     → where_ran (refusal_in (shown_of (step_of service event)).ans) (shown_of (step_of service event) ∷ []) ≡ shown_of (step_of service event) ∷ []
-unfolding if◌then◌else◌
+unfolding when◌then◌else◌
 event_shown service event = simp (none_above_five service event)
 
 -- and so does a port event that is accepted
 pub port_shown_lem : (service : Service) (event : PortEvent) → is_refused (port_step_of service event).response ≡ false →
     let shown = shown_of (port_step_of service event).outcome in where_ran (refusal_in shown.ans) (shown ∷ []) ≡ shown ∷ []
-unfolding if◌then◌else◌
+unfolding when◌then◌else◌
 port_shown_lem service event accepted = simp (not_refused service event accepted)
 
 item_alike : (service : Service) (item : Item) → Alike service (step_item service item)
-unfolding step_item if◌then◌else◌ report_of change_of answered_of
+unfolding step_item when◌then◌else◌ report_of change_of answered_of
 item_alike service =
     by_item (Alike service) service
     (λ event. record { leaves = refl; shows = rw (event_shown service event) })

@@ -7,7 +7,7 @@ use mathlib.Core.List.{List, [], ◌∷◌}
 use lib.Dec.{ltb}
 use native.Mathlib.Omega.{arith}
 use borrow.Author.Tests.{ltb-true, lt-ltb, not-true}
-use Rattle.bits.specs.Choice.{if◌then◌else◌}
+use Rattle.bits.specs.Choice.{when◌then◌else◌}
 use Rattle.frame.specs.declared.Reading.{Reading}
 use Rattle.frame.specs.declared.Reading.TheVariants.{Byte, Refused}
 use Rattle.frame.specs.Frame.{read_frame}
@@ -37,7 +37,7 @@ module _ (picked : Service → Item → Bool)
     (leaves : (service : Service) (item : Item) → picked service item ≡ true → next_item service item ≡ service) where
   one_more : (service : Service) (item : Item) (more : List Item) (out : Bool) → picked service item ≡ out
       → TakenOut picked (next_item service item) more → TakenOut picked service (item ∷ more)
-  unfolding if◌then◌else◌
+  unfolding when◌then◌else◌
   one_more service item more true is h =
       let same = leaves service item is in
       let rest = others picked (next_item service item) more in

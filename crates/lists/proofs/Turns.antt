@@ -6,7 +6,7 @@ use mathlib.Core.Bool.{Bool, false, ◌||◌}
 use mathlib.Core.Path.{◌≡◌, refl, ap}
 use mathlib.Core.List.{List, [], ◌∷◌, ◌++◌}
 use lib.Dec.{ltb}
-use Rattle.bits.specs.Choice.{if◌then◌else◌}
+use Rattle.bits.specs.Choice.{when◌then◌else◌}
 use Rattle.bits.proofs.Choice.{by_test}
 use Rattle.line.specs.declared.Kind.{Kind}
 use Rattle.line.specs.declared.Kind.TheVariants.{Rate}
@@ -115,13 +115,13 @@ module _ (service : Service) (delay rate : ℕ) where
   SetsRate outcome = refusal_in (shown_of outcome).ans ≡ 0 → outcome.service.line.rate ≡ Value (32 * delay + rate)
 
   set_waits : SetsRate (set_rate_of service delay rate)
-  unfolding set_rate_of answered_of wait_rate_of if◌then◌else◌
+  unfolding set_rate_of answered_of wait_rate_of when◌then◌else◌
   set_waits =
       by_test SetsRate (ltb 3 delay) _ _ (λ _ none. let z : ◌≡◌ {A = ℕ} 3 0 = none in absurd (omega arith))
       (λ _. by_test SetsRate (ltb 31 rate) _ _ (λ _ none. let z : ◌≡◌ {A = ℕ} 4 0 = none in absurd (omega arith)) (λ _ _. refl))
 
   event_waits : (event : Event) → runs event ∷ [] ≡ runs (Call 0x03 delay rate) ∷ [] → SetsRate (step_of service event)
-  unfolding step_of call_of if◌then◌else◌
+  unfolding step_of call_of when◌then◌else◌
   event_waits event ran = let is : event ≡ Call 0x03 delay rate = cc ran in rw is set_waits
 
   abbrev Accepted : Stepped → Type 0
@@ -152,7 +152,7 @@ before_its_f3 set locks earlier item later a k =
 -- ---- 2. its own first byte
 
 fate : (kind : Kind) (operand : ℕ) (line : Line) (stepped : Stepped) → Step kind operand line stepped → Fate kind operand stepped
-unfolding start_of send_of counted_of one_more_of if◌then◌else◌
+unfolding start_of send_of counted_of one_more_of when◌then◌else◌
 fate kind operand line stepped (begins shown s first ran l) =
     starts ran (rw s (ap (λ (t : Bool). t || false) first)) (ap (λ (later : Line). later.phase) l)
 fate kind operand line stepped (goes wanted none falls) = waits wanted none

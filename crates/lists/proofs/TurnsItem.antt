@@ -7,7 +7,7 @@ use mathlib.Core.Path.{◌≡◌, refl, ap, sym, subst, ◌∙◌}
 use mathlib.Core.List.{List, [], ◌∷◌, ◌++◌}
 use lib.Dec.{eqb}
 use borrow.Author.Tests.{eqb-true}
-use Rattle.bits.specs.Choice.{if◌then◌else◌}
+use Rattle.bits.specs.Choice.{when◌then◌else◌}
 use Rattle.bits.proofs.Choice.{by_test}
 use Rattle.bits.proofs.Tests.{not_both}
 use Rattle.line.specs.declared.Kind.{Kind}
@@ -55,12 +55,12 @@ module _ (kind : Kind) (outcome : Outcome) (h : Silent outcome.answer) where
   silent_first = rw h.silent refl
 
   silent_bytes : bytes_in (shown_of outcome ∷ []) ≡ 0
-  unfolding if◌then◌else◌
+  unfolding when◌then◌else◌
   silent_bytes = rw h.silent refl
 
 -- bytes count up to the first byte of the command, and behind all else
 pub before_first : (kind : Kind) (shown : Shown) (more : List Shown) → is_first kind shown ≡ true → bytes_before kind (shown ∷ more) ≡ 0
-unfolding if◌then◌else◌
+unfolding when◌then◌else◌
 before_first kind shown more h = rw h refl
 
 pub before_others : (kind : Kind) (shown more : List Shown) → shows_first kind shown ≡ false → bytes_before kind (shown ++ more) ≤ bytes_in shown + bytes_before kind more
@@ -86,7 +86,7 @@ first_sends kind service line line-answer.Ignored sent h = not_both h refl
 first_sends kind service line line-answer.GivenUp sent h = not_both h refl
 
 start_shown : (kind : Kind) (operand : ℕ) (service : Service) → is_first kind (shown_of (on_line service (start_of service.line kind operand) Taken)) ≡ true
-unfolding on_line start_of send_of due_of counted_of one_more_of first_byte_of if◌then◌else◌
+unfolding on_line start_of send_of due_of counted_of one_more_of first_byte_of when◌then◌else◌
 start_shown Led operand service = refl
 start_shown Rate operand service = refl
 
@@ -205,7 +205,7 @@ module _ (kind : Kind) (operand : ℕ) (service : Service) (w : Within service.l
       silent_step outcome stepped l s (rw e (record { silent = refl })) (rw e (rate_waits stepped _ a k))
 
   pub item_step : (item : Item) → Keeps kind operand service (step_item service item) → Step kind operand service.line (step_item service item)
-  unfolding step_item change_of answered_of report_of if◌then◌else◌
+  unfolding step_item change_of answered_of report_of when◌then◌else◌
   item_step =
       by_item (λ (stepped : Stepped). Keeps kind operand service stepped → Step kind operand service.line stepped) service
       (λ event k. event_step event (step_of service event) _ refl refl refl (event_shown service event) k (gives service event))

@@ -1,7 +1,7 @@
 -- What a list can hold: the things that a caller does with a service, one after the other.
 -- Assumes nothing.
 use Rattle.std.specs.Prelude.{ℕ, Bool, false, List, [], ◌∷◌, ◌++◌, ltb}
-use Rattle.bits.specs.Choice.{if◌then◌else◌}
+use Rattle.bits.specs.Choice.{when◌then◌else◌}
 use Rattle.frame.specs.declared.Reading.{Reading}
 use Rattle.frame.specs.declared.Reading.TheVariants.{Byte, Refused}
 use Rattle.frame.specs.Frame.{read_frame}
@@ -70,7 +70,7 @@ seen_of outcome port = answered (shown_of outcome) port (status_in outcome.servi
 
 -- 2 to 5 refuse an event that ran; any other refusal says that none did
 abbrev pub where_ran : {A : Type 0} → ℕ → List A → List A
-where_ran refusal of-event = if ltb 5 refusal then [] else of-event
+where_ran refusal of-event = when ltb 5 refusal then [] else of-event
 
 -- what a frame feeds
 abbrev pub fed_by : Reading → List Item

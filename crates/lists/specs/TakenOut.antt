@@ -2,7 +2,7 @@
 -- sentence.
 -- Assumes nothing.
 use Rattle.std.specs.Prelude.{◌≡◌, Bool, false, not, List, [], ◌∷◌, ltb}
-use Rattle.bits.specs.Choice.{if◌then◌else◌}
+use Rattle.bits.specs.Choice.{when◌then◌else◌}
 use Rattle.frame.specs.Frame.{read_frame}
 use Rattle.frame.specs.Laws.{is_accepted}
 use Rattle.controller.specs.PortEvents.{is_refused}
@@ -14,12 +14,12 @@ use Rattle.lists.specs.Items.{Item, runs, reports, receives, changes, at_port, S
 abbrev pub others : (Service → Item → Bool) → Service → List Item → List Item
 others picked service [] = []
 others picked service (item ∷ more) =
-    if picked service item then others picked (next_item service item) more else item ∷ others picked (next_item service item) more
+    when picked service item then others picked (next_item service item) more else item ∷ others picked (next_item service item) more
 
 abbrev pub seen_of_others : (Service → Item → Bool) → Service → List Item → List Seen
 seen_of_others picked service [] = []
 seen_of_others picked service (item ∷ more) =
-    if picked service item then seen_of_others picked (next_item service item) more
+    when picked service item then seen_of_others picked (next_item service item) more
     else (step_item service item).seen ∷ seen_of_others picked (next_item service item) more
 
 pub record TakenOut (picked : Service → Item → Bool) (service : Service) (items : List Item) : Type 0 where

@@ -2,7 +2,7 @@
 -- command sends more than six is in `SentOverItems`. Turns.antt of proofs/ proves each sentence.
 -- Assumes nothing.
 use Rattle.std.specs.Prelude.{ℕ, ◌+◌, ◌*◌, ◌≤◌, Bool, true, false, ◌&&◌, ◌||◌, ◌≡◌, List, [], ◌∷◌, ◌++◌, map, eqb}
-use Rattle.bits.specs.Choice.{if◌then◌else◌}
+use Rattle.bits.specs.Choice.{when◌then◌else◌}
 use Rattle.line.specs.declared.Kind.{Kind}
 use Rattle.line.specs.declared.Kind.TheVariants.{Led, Rate}
 use Rattle.line.specs.declared.Phase.TheVariants.{Awaiting}
@@ -28,7 +28,7 @@ is_first kind shown = eqb shown.ans 0x0C && (eqb shown.word (first_byte_of kind)
 -- the bytes that a list shows as sent before the first byte of a kind's command, or in all where it shows none
 abbrev pub bytes_before : Kind → List Shown → ℕ
 bytes_before kind [] = 0
-bytes_before kind (shown ∷ more) = if is_first kind shown then 0 else bytes_shown shown + bytes_before kind more
+bytes_before kind (shown ∷ more) = when is_first kind shown then 0 else bytes_shown shown + bytes_before kind more
 
 -- ---- 2. a rate that is kept, locks that stand
 

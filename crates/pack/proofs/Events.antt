@@ -7,7 +7,7 @@ use native.Mathlib.Omega.{arith}
 use borrow.Author.Tests.{eqb-true}
 use lib.Dec.{eqb}
 use lib.ListN.{length, take}
-use Rattle.bits.specs.Choice.{if◌then◌else◌}
+use Rattle.bits.specs.Choice.{when◌then◌else◌}
 use Rattle.bits.proofs.Choice.{by_test}
 use Rattle.events.specs.declared.Event.TheVariants.{Key, Call, Poll, TimeOut, Empty, Restart, Scan}
 use Rattle.pack.specs.declared.Read.{Read}
@@ -27,7 +27,7 @@ encoded_by_tag Restart = refl
 encoded_by_tag (Scan byte) = refl
 
 pub encoded_is_read : EncodedIsRead
-unfolding first_of tagged_of if◌then◌else◌
+unfolding first_of tagged_of when◌then◌else◌
 encoded_is_read (Key byte) later = refl
 encoded_is_read (Call function a b) later = refl
 encoded_is_read Poll later = refl

@@ -11,7 +11,7 @@ use types.Run.{OneOf, miss}
 use lib.Dec.{ltb}
 use lib.ListN.{length, get_or, take, drop, length-drop, drop_of_length-le}
 use lib.Seq.{take_all}
-use Rattle.bits.specs.Choice.{if◌then◌else◌}
+use Rattle.bits.specs.Choice.{when◌then◌else◌}
 use Rattle.bits.proofs.Choice.{by_test}
 use Rattle.events.specs.declared.Event.{Event}
 use Rattle.events.specs.declared.Event.TheVariants.{Call}
@@ -61,23 +61,23 @@ first_some [] some = absurd (omega arith)
 first_some (tag ∷ operands) some = refl
 
 pub read_too_long : (pack : List ℕ) (start : ℕ) → limit < length pack → read_at pack start ≡ read.TooLong
-unfolding read_at if◌then◌else◌
+unfolding read_at when◌then◌else◌
 read_too_long pack start long = simp (lt-ltb limit (length pack) long)
 
 pub read_beyond : (pack : List ℕ) (start : ℕ) → length pack ≤ limit → length pack < start → read_at pack start ≡ read.Beyond
-unfolding read_at if◌then◌else◌
+unfolding read_at when◌then◌else◌
 read_beyond pack start small beyond = simp (le-ltb limit (length pack) small, lt-ltb (length pack) start beyond)
 
 pub read_within : (pack : List ℕ) (start : ℕ) → length pack ≤ limit → start ≤ length pack → read_at pack start ≡ first_of (drop start pack)
-unfolding read_at if◌then◌else◌
+unfolding read_at when◌then◌else◌
 read_within pack start small within = simp (le-ltb limit (length pack) small, le-ltb (length pack) start within)
 
 pub part_too_long : (pack : List ℕ) (start : ℕ) → limit < length pack → part_at pack start ≡ []
-unfolding part_at if◌then◌else◌
+unfolding part_at when◌then◌else◌
 part_too_long pack start long = simp (lt-ltb limit (length pack) long)
 
 pub part_within : (pack : List ℕ) (start : ℕ) → length pack ≤ limit → part_at pack start ≡ drop start pack
-unfolding part_at if◌then◌else◌
+unfolding part_at when◌then◌else◌
 part_within pack start small = simp (le-ltb limit (length pack) small)
 
 pub part_beyond : (pack : List ℕ) (start : ℕ) → length pack ≤ limit → length pack < start → part_at pack start ≡ []

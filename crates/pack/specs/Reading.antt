@@ -1,7 +1,7 @@
 -- Document 01, "Events, as a pack encodes them", with refusals 6, 7, 8 and 10: what reading one event finds.
 -- Assumes nothing.
 use Rattle.std.specs.Prelude.{ℕ, List, [], ◌∷◌, eqb, ltb, length, drop}
-use Rattle.bits.specs.Choice.{if◌then◌else◌}
+use Rattle.bits.specs.Choice.{when◌then◌else◌}
 use Rattle.events.specs.declared.Event.{Event}
 use Rattle.events.specs.declared.Event.TheVariants.{Key, Call, Poll, TimeOut, Empty, Restart, Scan}
 use Rattle.events.specs.Tags.{key_tag, call_tag, poll_tag, time_out_tag, empty_tag, restart_tag, scan_tag}
@@ -27,13 +27,13 @@ call_of (function ∷ a ∷ b ∷ later) = read.Event (Call function a b) 4
 -- the event of a tag, with the bytes after it; P, T, E and R are the tag alone; refusal 6 for any other tag
 unfoldable pub tagged_of : ℕ → List ℕ → Read
 tagged_of tag operands =
-    if eqb tag key_tag then byte_of Key operands
-    else if eqb tag call_tag then call_of operands
-    else if eqb tag poll_tag then read.Event Poll 1
-    else if eqb tag time_out_tag then read.Event TimeOut 1
-    else if eqb tag empty_tag then read.Event Empty 1
-    else if eqb tag restart_tag then read.Event Restart 1
-    else if eqb tag scan_tag then byte_of Scan operands
+    when eqb tag key_tag then byte_of Key operands
+    else when eqb tag call_tag then call_of operands
+    else when eqb tag poll_tag then read.Event Poll 1
+    else when eqb tag time_out_tag then read.Event TimeOut 1
+    else when eqb tag empty_tag then read.Event Empty 1
+    else when eqb tag restart_tag then read.Event Restart 1
+    else when eqb tag scan_tag then byte_of Scan operands
     else read.UnknownTag
 
 -- the first event of a part; an empty part is the end
@@ -44,13 +44,13 @@ first_of (tag ∷ operands) = tagged_of tag operands
 -- the event at a start in a pack; refusal 8 before 10, and the start at the length is the end
 unfoldable pub read_at : List ℕ → ℕ → Read
 read_at pack start =
-    if ltb limit (length pack) then read.TooLong
-    else if ltb (length pack) start then read.Beyond
+    when ltb limit (length pack) then read.TooLong
+    else when ltb (length pack) start then read.Beyond
     else first_of (drop start pack)
 
 -- the part of a pack from a start on: nothing of a pack that is too long, nothing beyond the length
 unfoldable pub part_at : List ℕ → ℕ → List ℕ
-part_at pack start = if ltb limit (length pack) then [] else drop start pack
+part_at pack start = when ltb limit (length pack) then [] else drop start pack
 
 -- what is handed on after a reading: the part after the event, or the part as it is where none was read
 abbrev pub rest_of : Read → List ℕ → List ℕ

@@ -4,7 +4,7 @@ use Prim.Native.Nat.{ℕ}
 use mathlib.Core.Path.{◌≡◌, refl, ap, sym}
 use mathlib.Core.Bool.{Bool, true, false, ◌&&◌, ◌||◌, not, true≢false}
 use borrow.Author.Tests.{eq-eqb}
-use Rattle.bits.specs.Choice.{if◌then◌else◌}
+use Rattle.bits.specs.Choice.{when◌then◌else◌}
 use Rattle.bits.proofs.Choice.{by_test, either}
 use Rattle.word.specs.declared.Word.{Word}
 use Rattle.word.specs.Word.{is_code}
@@ -48,7 +48,7 @@ entry_leaves port shared code (Has word) h = put_leaves port shared code word h
 
 -- a digit counts only with Alt
 no_digit : (alt : Bool) (code : Code) → alt ≡ false → alt_digit alt code ≡ NoDigit
-unfolding alt_digit if◌then◌else◌
+unfolding alt_digit when◌then◌else◌
 no_digit alt code e = simp e
 
 counted_leaves : (digit : Digit) (port : Port) (shared : Shared) (code : Code) (entry : Entry)
@@ -121,14 +121,14 @@ on_reading_leaves (Key code) port shared h =
 
 -- without an Alt down before, ending the number changes nothing on a settled port
 nothing_to_end : (port : Port) (shared : Shared) → port.sum ≡ 0 → alt_ended port shared ≡ result_of port shared Nothing
-unfolding alt_ended if◌then◌else◌
+unfolding alt_ended when◌then◌else◌
 nothing_to_end port shared e =
     let kept : result_of (with_sum port 0) shared Nothing ≡ result_of port shared Nothing = ap (λ (n : ℕ). result_of (with_sum port n) shared Nothing) (sym e) in
     simp (eq-eqb port.sum 0 e) kept
 
 readings_agree : (last was : Bool) (ended kept : Decoded) → (was ≡ false → ended ≡ kept)
-    → (if last then ended else kept) ≡ (if last && was then ended else kept)
-unfolding if◌then◌else◌
+    → (when last then ended else kept) ≡ (when last && was then ended else kept)
+unfolding when◌then◌else◌
 readings_agree true true ended kept h = refl
 readings_agree true false ended kept h = h refl
 readings_agree false was ended kept h = refl

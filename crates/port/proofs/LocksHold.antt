@@ -6,7 +6,7 @@ use mathlib.Core.Bool.{Bool, true, false, ◌&&◌, not}
 use lib.Dec.{T, eqb→eq}
 use borrow.Author.Tests.{ne_eqb}
 use Rattle.bits.specs.Bits.{toggle}
-use Rattle.bits.specs.Choice.{if◌then◌else◌}
+use Rattle.bits.specs.Choice.{when◌then◌else◌}
 use Rattle.bits.proofs.Choice.{either}
 use Rattle.bits.proofs.Tests.{all_below, below}
 use Rattle.word.specs.declared.Word.{Word}
@@ -120,7 +120,7 @@ abbrev reads_itself : Prefix → ℕ → Bool
 reads_itself prefix byte = is_itself byte (reading_of prefix byte)
 
 read_test : (prefix : Prefix) → T (all_below (reads_itself prefix) 256)
-unfolding reading_of continued opened if◌then◌else◌
+unfolding reading_of continued opened when◌then◌else◌
 read_test Closed = tt
 read_test E0 = tt
 read_test E1 = tt

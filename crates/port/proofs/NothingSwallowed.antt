@@ -4,7 +4,7 @@ use Prim.Native.Nat.{ℕ}
 use mathlib.Core.Path.{◌≡◌, refl, ap, ◌∙◌}
 use mathlib.Core.Bool.{false, ◌||◌, true≢false}
 use lib.Dec.{eqb}
-use Rattle.bits.specs.Choice.{if◌then◌else◌}
+use Rattle.bits.specs.Choice.{when◌then◌else◌}
 use Rattle.port.specs.declared.Prefix.{Prefix}
 use Rattle.port.specs.declared.Prefix.TheVariants.{Closed, E0, E1, E1Make, E1Break}
 use Rattle.port.specs.declared.Reading.{Reading}
@@ -19,7 +19,7 @@ use Rattle.port.specs.Laws.{fits, NothingSwallowed}
 
 -- such a byte is read as with no prefix open
 read_alike : (prefix : Prefix) (byte : ℕ) → fits prefix byte ≡ false → continued prefix byte ≡ continued Closed byte
-unfolding continued if◌then◌else◌
+unfolding continued when◌then◌else◌
 read_alike Closed byte e = refl
 read_alike E0 byte e = absurd (true≢false e)
 read_alike E1 byte e = let n = or_false (eqb byte (at 1 pause)) (eqb byte (at 1 pause_break)) e in simp (n.0, n.1)
@@ -41,6 +41,6 @@ nothing_swallowed =
     record {
       read =
           λ port shared byte e.
-          ap (λ (r : Reading). on_reading (if eqb byte 0x00 || eqb byte 0xFF then Overrun else r) port shared) (read_alike port.prefix byte e)
+          ap (λ (r : Reading). on_reading (when eqb byte 0x00 || eqb byte 0xFF then Overrun else r) port shared) (read_alike port.prefix byte e)
           ∙ done_alike (reading_of Closed byte) port shared;
     }

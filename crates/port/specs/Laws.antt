@@ -1,7 +1,7 @@
 -- What holds of every byte at a port, stated as propositions. Proved in proofs/.
 -- Assumes nothing.
 use Rattle.std.specs.Prelude.{ℕ, ◌<◌, ◌≡◌, Bool, true, false, ◌&&◌, ◌||◌, not, eqb}
-use Rattle.bits.specs.Choice.{if◌then◌else◌}
+use Rattle.bits.specs.Choice.{when◌then◌else◌}
 use Rattle.word.specs.declared.Word.{Word}
 use Rattle.word.specs.Word.{is_code}
 use Rattle.port.specs.declared.Prefix.{Prefix}
@@ -38,7 +38,7 @@ pub record SumSettled (port : Port) : Type 0 where
 -- the narrow reading of "the last Alt goes up": an Alt must have been down before its break
 abbrev pub flags_changed_narrowly : Port → Shared → Code → Decoded
 flags_changed_narrowly port shared code =
-    if is_code 0xB8 code.scan && not (either_side (modifiers_after port.modifiers code).alt) && either_side port.modifiers.alt
+    when is_code 0xB8 code.scan && not (either_side (modifiers_after port.modifiers code).alt) && either_side port.modifiers.alt
     then alt_ended (flags_port port code) (flags_shared shared port.held code)
     else result_of (flags_port port code) (flags_shared shared port.held code) Nothing
 

@@ -1,7 +1,7 @@
 -- Steps 5 to 9: a make with a row.
 -- Assumes nothing.
 use Rattle.std.specs.Prelude.{Bool, false, ◌&&◌, ◌||◌, not, eqb}
-use Rattle.bits.specs.Choice.{if◌then◌else◌}
+use Rattle.bits.specs.Choice.{when◌then◌else◌}
 use Rattle.bits.specs.Bits.{toggle}
 use Rattle.word.specs.declared.Word.{Word}
 use Rattle.word.specs.Word.{is_code, number_of}
@@ -67,7 +67,7 @@ entry_put port shared code (Has word) = word_put port shared code word
 -- step 8 before 9: E0 46 is break
 unfoldable pub typed : Port → Shared → Code → Entry → Decoded
 typed port shared code entry =
-    if is_code 0x46 code.scan && code.extended then result_of port shared Break else entry_put port shared code entry
+    when is_code 0x46 code.scan && code.extended then result_of port shared Break else entry_put port shared code entry
 
 -- step 7: a digit counts and is done, any other make sets the sum to 0 and goes on
 unfoldable pub counted : Digit → Port → Shared → Code → Entry → Decoded
@@ -80,6 +80,6 @@ entered port shared code entry = counted (alt_digit (either_side port.modifiers.
 -- step 5: restart asked; step 6: a pause ends and the make does nothing else
 unfoldable pub made_of : Port → Shared → Code → Entry → Decoded
 made_of port shared code entry =
-    if is_code 0x53 code.scan && either_side port.modifiers.ctrl && either_side port.modifiers.alt then result_of port shared RestartAsked
-    else if shared.paused then result_of port (with_paused shared false) Nothing
+    when is_code 0x53 code.scan && either_side port.modifiers.ctrl && either_side port.modifiers.alt then result_of port shared RestartAsked
+    else when shared.paused then result_of port (with_paused shared false) Nothing
     else entered port shared code entry

@@ -2,7 +2,7 @@
 -- Assumes nothing.
 use mathlib.Core.Path.{◌≡◌, refl, sym}
 use mathlib.Core.Bool.{Bool, true, false, not, ◌||◌, true≢false}
-use Rattle.bits.specs.Choice.{if◌then◌else◌}
+use Rattle.bits.specs.Choice.{when◌then◌else◌}
 use Rattle.bits.proofs.Tests.{neither}
 use Rattle.word.specs.Word.{is_code}
 use Rattle.port.specs.declared.Code.{Code}
@@ -42,7 +42,7 @@ none false false false false false false false false false is =
     record { left = refl; right = refl; ctrl = refl; alt = refl; caps = refl; num = refl; scroll = refl; sysreq = refl; insert = refl }
 
 pub unnamed : (port : Port) (shared : Shared) (code : Code) → is_named code.scan ≡ false → flags_changed port shared code ≡ result_of port shared Nothing
-unfolding is_named flags_changed modifiers_after held_after locks_after if◌then◌else◌
+unfolding is_named flags_changed modifiers_after held_after locks_after when◌then◌else◌
 unnamed port shared code is =
     let scan = code.scan in
     let not_named =

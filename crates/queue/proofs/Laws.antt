@@ -10,7 +10,7 @@ use native.Mathlib.Omega.{arith}
 use lib.Dec.{ltb}
 use borrow.Author.Tests.{lt-ltb, le-ltb, ltb-true}
 use lib.ListN.{length, length-set}
-use Rattle.bits.specs.Choice.{if◌then◌else◌}
+use Rattle.bits.specs.Choice.{when◌then◌else◌}
 use Rattle.bits.proofs.Choice.{by_test, either}
 use Rattle.word.specs.declared.Word.{Word}
 use Rattle.word.specs.Word.{is_enhanced}
@@ -84,14 +84,14 @@ queue_stays_in_range =
     }
 
 listed_drop : (queue : Queue) (word : Word) → length (words_of queue) ≡ capacity → PutAsListed queue word
-unfolding put_in if◌then◌else◌
+unfolding put_in when◌then◌else◌
 listed_drop queue word full =
     let no_room = le-ltb (length (words_of queue)) capacity (omega arith) in
     let dropped = put_drops queue word full in
     record { stored = simp (no_room, dropped); words = simp (no_room, dropped) }
 
 listed_append : (queue : Queue) (word : Word) → Whole queue → length (words_of queue) < capacity → PutAsListed queue word
-unfolding put_in if◌then◌else◌
+unfolding put_in when◌then◌else◌
 listed_append queue word whole less =
     let room = lt-ltb (length (words_of queue)) capacity less in
     let appended = put_appends queue word whole less in
@@ -104,7 +104,7 @@ listed_take queue (word ∷ later) e = let removed = take_removes queue word lat
 -- by whether the first word is enhanced
 past_first : (queue : Queue) (word : Word) (later : List Word) → starts_enhanced queue ≡ is_enhanced word → words_of queue ≡ word ∷ later
     → words_of (past_enhanced (rest_of queue)) ≡ past_enhanced_in later → (t : Bool) → is_enhanced word ≡ t → words_of (past_enhanced queue) ≡ past_enhanced_in (word ∷ later)
-unfolding if◌then◌else◌
+unfolding when◌then◌else◌
 past_first queue word later first e more true t = simp t (ap words_of (past_one queue (first ∙ t)) ∙ more)
 past_first queue word later first e more false t = simp t (ap words_of (past_end queue (first ∙ t)) ∙ e)
 
@@ -126,11 +126,11 @@ as_listed =
     }
 
 pub passes_ahead : PassesAhead
-unfolding if◌then◌else◌
+unfolding when◌then◌else◌
 passes_ahead [] word later all other = simp other
 passes_ahead (first ∷ more) word later all other = simp all.0 (passes_ahead more word later all.1 other)
 
 pub passes_all : PassesAll
-unfolding if◌then◌else◌
+unfolding when◌then◌else◌
 passes_all [] all = refl
 passes_all (word ∷ later) all = simp all.0 (passes_all later all.1)

@@ -6,7 +6,7 @@ use native.Mathlib.Omega.{arith}
 use mathlib.Core.Path.{◌≡◌, refl, sym, ◌∙◌, ap}
 use mathlib.Core.Logic.{⊎_elim}
 use mathlib.Core.Bool.{true, false, true≢false}
-use Rattle.bits.specs.Choice.{if◌then◌else◌}
+use Rattle.bits.specs.Choice.{when◌then◌else◌}
 use Rattle.bits.proofs.Choice.{either}
 use Rattle.queue.specs.declared.Queue.{Queue}
 use Rattle.queue.specs.Queue.{held_in, rest_of}
@@ -20,11 +20,11 @@ one_fewer queue e =
     (λ (some : 0 < held_in queue). rw (rest_some queue some) (omega arith)) (eq-zero-or-pos (held_in queue))
 
 pub past_one : (queue : Queue) → starts_enhanced queue ≡ true → past_enhanced queue ≡ past_enhanced (rest_of queue)
-unfolding past_enhanced if◌then◌else◌
+unfolding past_enhanced when◌then◌else◌
 past_one queue e = rw (one_fewer queue e) (simp e)
 
 past_none : (n : ℕ) (queue : Queue) → starts_enhanced queue ≡ false → past_at_most n queue ≡ queue
-unfolding if◌then◌else◌
+unfolding when◌then◌else◌
 past_none zero queue e = refl
 past_none (suc n) queue e = simp e
 

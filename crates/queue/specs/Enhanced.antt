@@ -1,7 +1,7 @@
 -- Document 02, W-201: what an old program may see of a queue. Enhanced words at its head are removed unseen.
 -- Assumes nothing.
 use Rattle.std.specs.Prelude.{ℕ, zero, suc, Bool, false}
-use Rattle.bits.specs.Choice.{if◌then◌else◌}
+use Rattle.bits.specs.Choice.{when◌then◌else◌}
 use Rattle.word.specs.Word.{is_enhanced}
 use Rattle.queue.specs.declared.Queue.{Queue}
 use Rattle.queue.specs.declared.Oldest.{Oldest}
@@ -19,7 +19,7 @@ starts_enhanced queue = oldest_enhanced (oldest_of queue)
 -- at most so many words removed
 abbrev pub past_at_most : ℕ → Queue → Queue
 past_at_most zero queue = queue
-past_at_most (suc n) queue = if starts_enhanced queue then past_at_most n (rest_of queue) else queue
+past_at_most (suc n) queue = when starts_enhanced queue then past_at_most n (rest_of queue) else queue
 
 -- the queue from its first word on that is not enhanced
 unfoldable pub past_enhanced : Queue → Queue

@@ -1,7 +1,7 @@
 -- Document 01, the queue of 15 words: what each call returns, whole, for every value of the struct.
 -- Assumes nothing.
 use Rattle.std.specs.Prelude.{ℕ, min, ◌+◌, ◌-◌, ◌%◌, true, false, eqb, ltb, get_or, set, replicate}
-use Rattle.bits.specs.Choice.{if◌then◌else◌}
+use Rattle.bits.specs.Choice.{when◌then◌else◌}
 use Rattle.word.specs.declared.Word.{Word}
 use Rattle.word.specs.Word.{code_of, ascii_of, word_with}
 use Rattle.queue.specs.declared.Queue.{Queue}
@@ -36,7 +36,7 @@ held_in queue = min queue.count capacity
 
 -- functions 01 and 11: the oldest word, left
 unfoldable pub oldest_of : Queue → Oldest
-oldest_of queue = if eqb (held_in queue) 0 then None else Is (get_or queue.words (place_of queue.head 0) blank)
+oldest_of queue = when eqb (held_in queue) 0 then None else Is (get_or queue.words (place_of queue.head 0) blank)
 
 -- one word more, behind the newest
 abbrev pub longer : Queue → Word → Queue
@@ -46,7 +46,7 @@ longer queue word =
 -- a word put: stored where there is room, else dropped
 unfoldable pub put_of : Queue → Word → AfterPut
 put_of queue word =
-    if ltb (held_in queue) capacity
+    when ltb (held_in queue) capacity
     then record { stored = true; queue = longer queue word }
     else record { stored = false; queue = queue }
 
@@ -55,7 +55,7 @@ abbrev pub shorter : Queue → Queue
 shorter queue = record { words = queue.words; head = place_of queue.head 1; count = held_in queue - 1 }
 
 unfoldable pub rest_of : Queue → Queue
-rest_of queue = if eqb (held_in queue) 0 then queue else shorter queue
+rest_of queue = when eqb (held_in queue) 0 then queue else shorter queue
 
 -- functions 00 and 10: the oldest word, removed
 unfoldable pub take_of : Queue → Taken

@@ -1,7 +1,7 @@
 -- What a queue means: the list of its words, oldest first, and what each call does to it. Laws.antt of proofs/ proves each sentence.
 -- Assumes nothing.
 use Rattle.std.specs.Prelude.{ℕ, zero, suc, ◌%◌, ◌<◌, ◌≤◌, ◌≡◌, Bool, true, false, List, [], ◌∷◌, ◌++◌, ltb, length, get_or}
-use Rattle.bits.specs.Choice.{if◌then◌else◌}
+use Rattle.bits.specs.Choice.{when◌then◌else◌}
 use Rattle.word.specs.declared.Word.{Word}
 use Rattle.word.specs.Word.{is_enhanced}
 use Rattle.queue.specs.declared.Queue.{Queue}
@@ -79,7 +79,7 @@ abbrev pub has_room : List Word → Bool
 has_room words = ltb (length words) capacity
 
 unfoldable pub put_in : List Word → Word → List Word
-put_in words word = if has_room words then words ++ (word ∷ []) else words
+put_in words word = when has_room words then words ++ (word ∷ []) else words
 
 abbrev pub oldest_in : List Word → Oldest
 oldest_in [] = None
@@ -91,7 +91,7 @@ rest_in (word ∷ later) = later
 
 abbrev pub past_enhanced_in : List Word → List Word
 past_enhanced_in [] = []
-past_enhanced_in (word ∷ later) = if is_enhanced word then past_enhanced_in later else word ∷ later
+past_enhanced_in (word ∷ later) = when is_enhanced word then past_enhanced_in later else word ∷ later
 
 -- a put is the put on the list, and the word is stored where the list has room
 pub record PutAsListed (queue : Queue) (word : Word) : Type 0 where

@@ -1,7 +1,7 @@
 -- The reporter: refusal 9 before the event runs, else the event, its report at the start of the buffer, and the tail kept.
 -- Assumes nothing.
 use Rattle.std.specs.Prelude.{ℕ, ◌-◌, Bool, List, [], ◌∷◌, ◌++◌, ltb, length, drop}
-use Rattle.bits.specs.Choice.{if◌then◌else◌}
+use Rattle.bits.specs.Choice.{when◌then◌else◌}
 use Rattle.state.specs.declared.Service.{Service}
 use Rattle.events.specs.declared.Event.{Event}
 use Rattle.events.specs.Step.{step_of}
@@ -30,12 +30,12 @@ too_short buffer = ltb (length buffer) report_length
 -- 9 runs no event; an event that is run may be a call that 2 to 5 refuse, and then gives that number
 unfoldable pub reported_of : Service → Event → List ℕ → Reported
 reported_of service event buffer =
-    if too_short buffer then record { refusal = 9; service = service }
+    when too_short buffer then record { refusal = 9; service = service }
     else record { refusal = refusal_in (event_report service event).ans; service = next service event }
 
 -- a report in a buffer: one that is too short is left, a longer one keeps its tail
 unfoldable pub written_of : Report → List ℕ → List ℕ
-written_of report buffer = if too_short buffer then buffer else text_of report ++ drop report_length buffer
+written_of report buffer = when too_short buffer then buffer else text_of report ++ drop report_length buffer
 
 unfoldable pub buffer_of : Service → Event → List ℕ → List ℕ
 buffer_of service event buffer = written_of (event_report service event) buffer

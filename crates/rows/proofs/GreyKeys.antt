@@ -5,7 +5,7 @@ use mathlib.Core.Path.{◌≡◌, sym, ◌∙◌}
 use mathlib.Core.Bool.{Bool, true, false, ◌&&◌, ◌||◌, not}
 use mathlib.Core.List.{List, [], ◌∷◌}
 use lib.Dec.{T, T_not}
-use Rattle.bits.specs.Choice.{if◌then◌else◌}
+use Rattle.bits.specs.Choice.{when◌then◌else◌}
 use Rattle.bits.proofs.Tests.{and_left, and_right}
 use Rattle.word.specs.declared.ScanCode.{ScanCode}
 use Rattle.word.specs.declared.Word.{Word}
@@ -26,7 +26,7 @@ holds r word = same (meaning r.code r.plain) (Has word) || same (meaning r.code 
 
 abbrev owner : List Row → Word → ScanCode
 owner [] word = code_of 0
-owner (r ∷ more) word = if holds r word then r.code else owner more word
+owner (r ∷ more) word = when holds r word then r.code else owner more word
 
 -- only grey keys have E0 in their words
 abbrev passes : Bool → ScanCode → Word → Bool
@@ -34,7 +34,7 @@ passes false code word = not (has_e0 word)
 passes true code word = has_e0 word && same_code (owner extended_rows word) code
 
 test : (extended : Bool) (column : Column) → T (column_passes (passes extended) extended column)
-unfolding if◌then◌else◌ rows extended_rows entry_at
+unfolding when◌then◌else◌ rows extended_rows entry_at
 test false Plain = tt
 test false Shift = tt
 test false Ctrl = tt

@@ -5,7 +5,7 @@ use mathlib.Core.Bool.{Bool, true, false, ◌&&◌, ◌||◌, not}
 use Prim.Native.Nat.{ℕ, ◌<◌}
 use lib.Dec.{T, eqb}
 use borrow.Author.Tests.{eq-eqb}
-use Rattle.bits.specs.Choice.{if◌then◌else◌}
+use Rattle.bits.specs.Choice.{when◌then◌else◌}
 use Rattle.bits.proofs.Tests.{and_left, and_right, implies, implied, all_below, below}
 use Rattle.word.specs.declared.ScanCode.{ScanCode}
 use Rattle.word.specs.declared.Word.{Word}
@@ -45,7 +45,7 @@ abbrev passes : Bool → Column → ScanCode → Word → Bool
 passes extended column code word = is_nonzero word && has_high extended column code word
 
 test : (extended : Bool) (column : Column) → T (column_passes (passes extended column) extended column)
-unfolding if◌then◌else◌ rows extended_rows entry_at
+unfolding when◌then◌else◌ rows extended_rows entry_at
 test false Plain = tt
 test false Shift = tt
 test false Ctrl = tt
@@ -67,7 +67,7 @@ high_sound b scan code t e =
     same_code_lem scan code (subst (λ (x : Bool). T (x || same_code scan code)) e t)
 
 pub row_rules : RowRules
-unfolding if◌then◌else◌ rows ascending entry_at
+unfolding when◌then◌else◌ rows ascending entry_at
 row_rules =
     record {
       printed = refl;

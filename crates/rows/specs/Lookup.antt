@@ -1,7 +1,7 @@
 -- What a make gives, by its code and by what is on.
 -- Assumes nothing.
 use Rattle.std.specs.Prelude.{Bool, true, false, List, [], ◌∷◌}
-use Rattle.bits.specs.Choice.{if◌then◌else◌}
+use Rattle.bits.specs.Choice.{when◌then◌else◌}
 use Rattle.word.specs.declared.ScanCode.{ScanCode}
 use Rattle.word.specs.Word.{same_code}
 use Rattle.rows.specs.declared.Column.{Column}
@@ -15,7 +15,7 @@ use Rattle.rows.specs.Column.{column_of}
 -- the entry of a code and a column in a list of rows
 abbrev pub entry_in : List Row → ScanCode → Column → Entry
 entry_in [] code column = NoRow
-entry_in (r ∷ more) code column = if same_code code r.code then meaning code (print_at r column) else entry_in more code column
+entry_in (r ∷ more) code column = when same_code code r.code then meaning code (print_at r column) else entry_in more code column
 
 -- the rows of codes without and with E0
 abbrev pub rows_for : Bool → List Row

@@ -7,7 +7,7 @@ use Prim.Native.Nat.{ℕ, ◌-◌, ◌/◌, ◌%◌, ◌<◌, ◌≤◌}
 use lib.Dec.{T, lit<}
 use lib.ListN.{get_or}
 use borrow.Author.Tests.{lt-ltb, le-ltb}
-use Rattle.bits.specs.Choice.{if◌then◌else◌}
+use Rattle.bits.specs.Choice.{when◌then◌else◌}
 use Rattle.bits.proofs.Tests.{and_left, and_right, each_of_four, all_below, below}
 use Rattle.word.specs.declared.ScanCode.{ScanCode}
 use Rattle.word.specs.Word.{code_of, table_index}
@@ -27,17 +27,17 @@ index_below Alt = lit< tt
 -- what a read of the index, of the 78 rows and of the extended rows gives
 pub placed : (extended t : Bool) (code : ScanCode) (at : ℕ) → at ≡ table_index code → extended ≡ t → at < 0x60
     → get_or (get_or (places t) (at / 8) []) (at % 8) 0 ≡ place_of extended code
-unfolding place_of if◌then◌else◌
+unfolding place_of when◌then◌else◌
 placed extended t code at i e h = simp (e, ← i, lt-ltb at 0x60 h)
 
 pub in_rows : (place at : ℕ) (column : Column) → at ≡ index_of column → place < 78
     → entry_of (get_or (get_or (table false) place []) at 0) ≡ cell_of place column
-unfolding cell_of if◌then◌else◌
+unfolding cell_of when◌then◌else◌
 in_rows place at column e h = simp (e, lt-ltb place 78 h)
 
 pub in_extended_rows : (place at : ℕ) (column : Column) → at ≡ index_of column → 78 ≤ place → place < 92
     → entry_of (get_or (get_or (table true) (place - 78) []) at 0) ≡ cell_of place column
-unfolding cell_of if◌then◌else◌
+unfolding cell_of when◌then◌else◌
 in_extended_rows place at column e l h = simp (e, le-ltb place 78 l, lt-ltb place 92 h)
 
 abbrev agree : Bool → ScanCode → Column → Bool
@@ -52,7 +52,7 @@ abbrev code_agrees : ScanCode → Bool
 code_agrees code = row_agrees false code && row_agrees true code
 
 test : T (all_below (λ (n : ℕ). code_agrees (code_of n)) 256)
-unfolding if◌then◌else◌ rows extended_rows entry_at table places place_of cell_of
+unfolding when◌then◌else◌ rows extended_rows entry_at table places place_of cell_of
 test = tt
 
 at_row : (extended : Bool) (code : ScanCode) → T (code_agrees code) → T (row_agrees extended code)

@@ -1,7 +1,7 @@
 -- How the code lays the rows out: two tables of numbers and an index, computed here from the rows. For the crate's private functions.
 -- Assumes nothing.
 use Rattle.std.specs.Prelude.{ℕ, zero, suc, ◌+◌, ◌-◌, ◌/◌, ◌%◌, Bool, true, false, List, [], ◌∷◌, map, eqb, ltb, get_or}
-use Rattle.bits.specs.Choice.{if◌then◌else◌}
+use Rattle.bits.specs.Choice.{when◌then◌else◌}
 use Rattle.word.specs.declared.ScanCode.{ScanCode}
 use Rattle.word.specs.Word.{code_of, same_code, table_index, word_with, word_from, number_of}
 use Rattle.rows.specs.declared.Column.{Column}
@@ -26,7 +26,7 @@ unfolding ascending
 table extended = map numbers (ascending extended)
 
 abbrev pub entry_of : ℕ → Entry
-entry_of n = if eqb n 0 then NoWord else Has (word_from n)
+entry_of n = when eqb n 0 then NoWord else Has (word_from n)
 
 abbrev pub index_of : Column → ℕ
 index_of Plain = 0
@@ -37,7 +37,7 @@ index_of Alt = 3
 -- a code's place: its row's in the 78, or 78 more than its row's in the extended 14, or 92 for no row
 abbrev pub place_in : List Row → ℕ → ScanCode → ℕ
 place_in [] place code = 92
-place_in (r ∷ more) place code = if same_code code r.code then place else place_in more (suc place) code
+place_in (r ∷ more) place code = when same_code code r.code then place else place_in more (suc place) code
 
 -- the index: the places of the codes below 60, eight to a line
 abbrev pub line : List Row → ℕ → ℕ → ℕ → List ℕ
@@ -55,11 +55,11 @@ places true = lines (ascending true) 78 0 12
 
 unfoldable pub place_of : Bool → ScanCode → ℕ
 place_of extended code =
-    let at = table_index code in if ltb at 0x60 then get_or (get_or (places extended) (at / 8) []) (at % 8) 0 else 92
+    let at = table_index code in when ltb at 0x60 then get_or (get_or (places extended) (at / 8) []) (at % 8) 0 else 92
 
 -- what stands at a place and a column
 unfoldable pub cell_of : ℕ → Column → Entry
 cell_of place column =
-    if ltb place 78 then entry_of (get_or (get_or (table false) place []) (index_of column) 0)
-    else if ltb place 92 then entry_of (get_or (get_or (table true) (place - 78) []) (index_of column) 0)
+    when ltb place 78 then entry_of (get_or (get_or (table false) place []) (index_of column) 0)
+    else when ltb place 92 then entry_of (get_or (get_or (table true) (place - 78) []) (index_of column) 0)
     else NoRow

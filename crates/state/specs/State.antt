@@ -1,7 +1,7 @@
 -- Document 01, "Service and events": how a service is made, and services with one part changed.
 -- Assumes nothing.
 use Rattle.std.specs.Prelude.{ℕ, Bool, false, ltb}
-use Rattle.bits.specs.Choice.{if◌then◌else◌}
+use Rattle.bits.specs.Choice.{when◌then◌else◌}
 use Rattle.bits.specs.Bits.{bit0, bit1, bit2, bit3}
 use Rattle.port.specs.declared.Port.{Port}
 use Rattle.port.specs.declared.Shared.{Shared}
@@ -55,7 +55,7 @@ new_service set bits = with_locks set (locks_of bits)
 -- refusal 1: lock bits above 15
 unfoldable pub make_of : CodeSet → ℕ → Made
 make_of set bits =
-    if ltb 15 bits then record { refusal = 1; service = new_service set 0 } else record { refusal = 0; service = new_service set bits }
+    when ltb 15 bits then record { refusal = 1; service = new_service set 0 } else record { refusal = 0; service = new_service set bits }
 
 -- document 02, W-206: each device has a port of its own
 abbrev pub port_of : Device → Ports → Port

@@ -6,7 +6,7 @@ use mathlib.Core.Bool.{Bool, true, false}
 use mathlib.Core.Path.{◌≡◌, refl, sym, ◌∙◌}
 use mathlib.Core.List.{List, [], ◌++◌, append_assoc, append-nil}
 use lib.ListN.{length, length-append}
-use Rattle.bits.specs.Choice.{if◌then◌else◌}
+use Rattle.bits.specs.Choice.{when◌then◌else◌}
 use Rattle.bits.proofs.Choice.{by_test}
 use Rattle.bits.proofs.Tests.{not_both}
 use Rattle.state.specs.declared.Service.{Service}
@@ -37,11 +37,11 @@ unfolding printed_of parse_from
 printed_stop service pack offset none = rw (by_stop _ pack offset none)
 
 left_ended : (pack : List ℕ) (place : Place) → place.ended ≡ true → left_of pack place ≡ []
-unfolding left_of if◌then◌else◌
+unfolding left_of when◌then◌else◌
 left_ended pack place e = rw e
 
 left_open : (pack : List ℕ) (place : Place) → place.ended ≡ false → left_of pack place ≡ printed_of place.service (parse_from pack place.offset)
-unfolding left_of if◌then◌else◌
+unfolding left_of when◌then◌else◌
 left_open pack place e = rw e
 
 lines_then_rest : (n : ℕ) (pack : List ℕ) (service : Service) (offset : ℕ)
@@ -126,14 +126,14 @@ parts_are_trace pack =
 
 -- bounds the bytes that are unread at a place; 0 once printing has ended
 unfoldable pub unread : Place → ℕ
-unread place = if place.ended then 0 else suc (limit - place.offset)
+unread place = when place.ended then 0 else suc (limit - place.offset)
 
 unread_ended : (place : Place) → place.ended ≡ true → unread place ≡ 0
-unfolding unread if◌then◌else◌
+unfolding unread when◌then◌else◌
 unread_ended place e = rw e
 
 unread_open : (place : Place) → place.ended ≡ false → unread place ≡ suc (limit - place.offset)
-unfolding unread if◌then◌else◌
+unfolding unread when◌then◌else◌
 unread_open place e = rw e
 
 pub unread_falls : (pack : List ℕ) (place : Place) → place.ended ≡ false → unread (part_of pack place).place < unread place

@@ -6,7 +6,7 @@ use mathlib.Core.Bool.{true, false}
 use mathlib.Core.Path.{◌≡◌, refl}
 use mathlib.Core.List.{List, append-nil}
 use lib.ListN.{length, drop}
-use Rattle.bits.specs.Choice.{if◌then◌else◌}
+use Rattle.bits.specs.Choice.{when◌then◌else◌}
 use Rattle.state.specs.declared.Service.{Service}
 use Rattle.events.specs.declared.Event.{Event}
 use Rattle.events.specs.Run.{next}
@@ -50,11 +50,11 @@ lines_stop n pack service offset none = on_stop (read_at pack offset) service of
 
 -- the lines of a part from a place where something is left, and from any other
 pub lines_open : (pack : List ℕ) (place : Place) → place.ended ≡ false → lines_of pack place ≡ lines_by reports_most pack place.service place.offset
-unfolding lines_of if◌then◌else◌
+unfolding lines_of when◌then◌else◌
 lines_open pack place e = rw e
 
 pub lines_ended : (pack : List ℕ) (place : Place) → place.ended ≡ true → lines_of pack place ≡ none_at place
-unfolding lines_of if◌then◌else◌
+unfolding lines_of when◌then◌else◌
 lines_ended pack place e = rw e
 
 -- all the lines of a part stand in its buffer

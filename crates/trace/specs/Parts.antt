@@ -1,7 +1,7 @@
 -- The text of a pack in parts: what each part has, and that the parts one behind the other are the trace.
 -- Assumes nothing.
 use Rattle.std.specs.Prelude.{ℕ, zero, suc, ◌+◌, ◌*◌, ◌≤◌, true, false, ◌≡◌, List, [], ◌++◌, length, drop}
-use Rattle.bits.specs.Choice.{if◌then◌else◌}
+use Rattle.bits.specs.Choice.{when◌then◌else◌}
 use Rattle.translation.specs.declared.CodeSet.TheVariants.{One}
 use Rattle.state.specs.declared.Service.{Service}
 use Rattle.state.specs.State.{new_service}
@@ -70,7 +70,7 @@ lines_by (suc readings) pack service offset = lines_on (read_at pack offset) ser
 
 -- the lines of the next part; none once printing has ended
 unfoldable pub lines_of : List ℕ → Place → Lines
-lines_of pack place = if place.ended then none_at place else lines_by reports_most pack place.service place.offset
+lines_of pack place = when place.ended then none_at place else lines_by reports_most pack place.service place.offset
 
 unfoldable pub part_of : List ℕ → Place → Part
 part_of pack place = record { place = (lines_of pack place).place; length = length (lines_of pack place).text }
@@ -86,7 +86,7 @@ parts_by (suc parts) pack place = text_then (lines_of pack place).text (parts_by
 
 -- the text from a place to the end
 unfoldable pub left_of : List ℕ → Place → List ℕ
-left_of pack place = if place.ended then [] else printed_of place.service (parse_from pack place.offset)
+left_of pack place = when place.ended then [] else printed_of place.service (parse_from pack place.offset)
 
 -- from any place, what was left is the part and what it leaves
 abbrev pub PartThenRest : Type 0

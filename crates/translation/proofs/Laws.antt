@@ -7,7 +7,7 @@ use native.Mathlib.Omega.{arith}
 use mathlib.Core.Path.{◌≡◌, refl, ap, sym, ◌∙◌}
 use mathlib.Core.Bool.{Bool, ◌&&◌, ◌||◌}
 use lib.Dec.{T, eqb, ltb, eqb→eq, ltb→lt}
-use Rattle.bits.specs.Choice.{if◌then◌else◌}
+use Rattle.bits.specs.Choice.{when◌then◌else◌}
 use Rattle.bits.proofs.Tests.{and_left, and_right, each_of_four, neither, all_below, below}
 use Rattle.translation.specs.declared.CodeSet.{CodeSet}
 use Rattle.translation.specs.declared.CodeSet.TheVariants.{One, Two}
@@ -34,7 +34,7 @@ undone code =
     && (eqb (set_two_code (set_one_code code)) code && (is_code (set_two_code code) && eqb (set_one_code (set_two_code code)) code))
 
 test : T (all_below (λ (n : ℕ). undone (suc n)) 0x7F)
-unfolding table set_one_code set_two_code if◌then◌else◌
+unfolding table set_one_code set_two_code when◌then◌else◌
 test = tt
 
 -- what the test says of one code
@@ -68,14 +68,14 @@ each_once = record {
 -- ---- codes and overruns
 
 pub each_code_passes : EachCodePasses
-unfolding translated_of from_set_two if◌then◌else◌
+unfolding translated_of from_set_two when◌then◌else◌
 each_code_passes byte is =
     let mark = neither (eqb byte 0xF0) _ is in
     let rest = neither (eqb byte 0xFA || eqb byte 0xFE) _ mark.second in
     record { make = simp (mark.first, rest.first, rest.second); break = simp (mark.first, rest.first, rest.second) }
 
 pub overruns_pass : OverrunsPass
-unfolding table set_one_code translated_of from_set_two if◌then◌else◌
+unfolding table set_one_code translated_of from_set_two when◌then◌else◌
 overruns_pass = record { unmarked = (refl, refl); marked = (refl, refl) }
 
 -- ---- sets

@@ -1,7 +1,7 @@
 -- What holds of the translation. Laws.antt of proofs/ proves each sentence.
 -- Assumes nothing.
 use Rattle.std.specs.Prelude.{ℕ, zero, suc, ◌<◌, ◌≡◌, Bool, false, ◌||◌, List, [], ◌∷◌, eqb}
-use Rattle.bits.specs.Choice.{if◌then◌else◌}
+use Rattle.bits.specs.Choice.{when◌then◌else◌}
 use Rattle.translation.specs.declared.Codes.{Codes}
 use Rattle.translation.specs.declared.Codes.TheVariants.{SetTwo, SetTwoMarked}
 use Rattle.translation.specs.Table.{table}
@@ -15,7 +15,7 @@ pub record IsCode (code : ℕ) : Type 0 where
 -- the place at which a list has a number first, its length where it has none
 abbrev pub place_in : ℕ → List ℕ → ℕ
 place_in number [] = zero
-place_in number (first ∷ more) = if eqb first number then zero else suc (place_in number more)
+place_in number (first ∷ more) = when eqb first number then zero else suc (place_in number more)
 
 -- the code of set 2 that becomes a code of set 1
 unfoldable pub set_two_code : ℕ → ℕ

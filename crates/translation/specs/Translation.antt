@@ -1,7 +1,7 @@
 -- Document 02, W-203: what a byte of set 2 becomes, and what it does to the mark.
 -- Assumes nothing.
 use Rattle.std.specs.Prelude.{ℕ, ◌+◌, ◌%◌, ◌||◌, List, [], ◌∷◌, eqb, ltb, get_or}
-use Rattle.bits.specs.Choice.{if◌then◌else◌}
+use Rattle.bits.specs.Choice.{when◌then◌else◌}
 use Rattle.translation.specs.declared.CodeSet.{CodeSet}
 use Rattle.translation.specs.declared.CodeSet.TheVariants.{One, Two}
 use Rattle.translation.specs.declared.Codes.{Codes}
@@ -24,9 +24,9 @@ set_of SetTwoMarked = Two
 -- below 80 the table's code; from 80 up the code itself, but for 83 and 84
 unfoldable pub set_one_code : ℕ → ℕ
 set_one_code code =
-    if ltb code 0x80 then get_or table code 0
-    else if eqb code 0x83 then 0x41
-    else if eqb code 0x84 then 0x54
+    when ltb code 0x80 then get_or table code 0
+    else when eqb code 0x83 then 0x41
+    else when eqb code 0x84 then 0x54
     else code
 
 -- bit 7 set
@@ -39,9 +39,9 @@ passes codes byte = record { codes = codes; passed = Byte byte }
 -- F0 marks the next code; FA and FE leave the mark, E0 and E1 close it; any other byte is a code, which closes it too
 unfoldable pub from_set_two : Codes → ℕ → ℕ → Translated
 from_set_two codes byte code =
-    if eqb byte 0xF0 then record { codes = SetTwoMarked; passed = Nothing }
-    else if eqb byte 0xFA || eqb byte 0xFE then passes codes byte
-    else if eqb byte 0xE0 || eqb byte 0xE1 then passes SetTwo byte
+    when eqb byte 0xF0 then record { codes = SetTwoMarked; passed = Nothing }
+    else when eqb byte 0xFA || eqb byte 0xFE then passes codes byte
+    else when eqb byte 0xE0 || eqb byte 0xE1 then passes SetTwo byte
     else passes SetTwo code
 
 unfoldable pub translated_of : Codes → ℕ → Translated

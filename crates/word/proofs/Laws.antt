@@ -5,7 +5,7 @@ use mathlib.Core.Bool.{Bool, false, ◌||◌, not, and-false}
 use Prim.Native.Nat.{ℕ, ◌+◌, ◌*◌, ◌/◌, ◌%◌, ◌<◌}
 use native.Mathlib.Omega.{arith}
 use lib.Dec.{T, eqb, eqb→eq}
-use Rattle.bits.specs.Choice.{if◌then◌else◌}
+use Rattle.bits.specs.Choice.{when◌then◌else◌}
 use Rattle.bits.proofs.Tests.{neither}
 use Rattle.word.specs.declared.ScanCode.{ScanCode}
 use Rattle.word.specs.declared.Ascii.{Ascii}
@@ -34,7 +34,7 @@ from_of_number w h =
 
 -- a character, 00E0 too
 pub character_stays : (ascii : Ascii) → old_word_of (word_with (code_of 0x00) ascii) ≡ word_with (code_of 0x00) ascii
-unfolding old_word_of if◌then◌else◌
+unfolding old_word_of when◌then◌else◌
 character_stays ascii = refl
 
 -- a word without E0, which stands in the words of grey keys
@@ -42,7 +42,7 @@ abbrev pub has_e0 : Word → Bool
 has_e0 word = eqb word.scan.0 0xE0 || eqb word.ascii.0 0xE0
 
 pub other_word_stays : (word : Word) → has_e0 word ≡ false → old_word_of word ≡ word
-unfolding old_word_of if◌then◌else◌
+unfolding old_word_of when◌then◌else◌
 other_word_stays word h =
     let none = neither (eqb word.scan.0 0xE0) (eqb word.ascii.0 0xE0) h in
     simp (none.first, none.second, and-false (not (eqb word.scan.0 0x00)))

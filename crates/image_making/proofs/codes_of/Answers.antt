@@ -1,18 +1,18 @@
 -- The proof of `image_making::codes_of`.
 -- Assumes nothing.
 use borrow.Author.Tests.{ne_eqb}
-use Rattle.bits.specs.Choice.{if◌then◌else◌}
+use Rattle.bits.specs.Choice.{when◌then◌else◌}
 use Rattle.image.specs.ImageFlags.{codes_at}
 use Rattle.image_making.proofs.codes_of.Goals as goal
 
 pub returns-in-1 : goal.returns-in-1
-unfolding codes_at if◌then◌else◌
+unfolding codes_at when◌then◌else◌
 returns-in-1 c = rw c.in-1.is
 
 pub returns-in-2 : goal.returns-in-2
-unfolding codes_at if◌then◌else◌
+unfolding codes_at when◌then◌else◌
 returns-in-2 c = rw c.in-2.is
 
 pub returns-in_default : goal.returns-in_default
-unfolding codes_at if◌then◌else◌
+unfolding codes_at when◌then◌else◌
 returns-in_default c = let r = c.in_default.in_default-own.rest in simp (ne_eqb _ _ r.0.1, ne_eqb _ _ r.1)

@@ -1,7 +1,7 @@
 -- The proof of `image_renewal::made`.
 -- Assumes nothing.
 use borrow.Author.Tests.{le-ltb, lt-ltb}
-use Rattle.bits.specs.Choice.{if◌then◌else◌}
+use Rattle.bits.specs.Choice.{when◌then◌else◌}
 use Rattle.state.specs.State.{make_of}
 use Rattle.image.proofs.ImageLaws.{made_anew}
 use Rattle.image_calls.specs.Exports.{tried_in}
@@ -9,9 +9,9 @@ use borrow.Author.Rules.{rules}
 use Rattle.image_renewal.proofs.made.Goals as goal
 
 pub returns-then-bits-gt15 : goal.returns-then-bits-gt15
-unfolding make_of tried_in if◌then◌else◌
+unfolding make_of tried_in when◌then◌else◌
 returns-then-bits-gt15 c = simp (lt-ltb _ _ c.if-bits-gt15.true)
 
 pub returns : goal.returns
-unfolding make_of tried_in if◌then◌else◌
+unfolding make_of tried_in when◌then◌else◌
 returns c = simp (c.new.ensures, le-ltb _ _ c.if-bits-gt15.false, made_anew)

@@ -1,11 +1,11 @@
 -- The proof of `line_replies::acknowledged`.
 -- Assumes nothing.
-use Rattle.bits.specs.Choice.{if◌then◌else◌}
+use Rattle.bits.specs.Choice.{when◌then◌else◌}
 use Rattle.line.specs.Reply.{acknowledged_of}
 use Rattle.line_replies.proofs.acknowledged.Goals as goal
 
 pub returns-then-command : goal.returns-then-command
-unfolding acknowledged_of if◌then◌else◌
+unfolding acknowledged_of when◌then◌else◌
 returns-then-command c =
     simp (
       c.ended.ensures,
@@ -14,7 +14,7 @@ returns-then-command c =
     )
 
 pub returns : goal.returns
-unfolding acknowledged_of if◌then◌else◌
+unfolding acknowledged_of when◌then◌else◌
 returns c =
     simp (
       c.in_phase.ensures,

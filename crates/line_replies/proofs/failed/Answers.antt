@@ -1,12 +1,12 @@
 -- The proof of `line_replies::failed`.
 -- Assumes nothing.
-use Rattle.bits.specs.Choice.{if◌then◌else◌}
+use Rattle.bits.specs.Choice.{when◌then◌else◌}
 use Rattle.line.specs.Reply.{failed_of}
 use borrow.Author.Tests.{le-ltb, lt-ltb}
 use Rattle.line_replies.proofs.failed.Goals as goal
 
 pub returns-then-command-lt3 : goal.returns-then-command-lt3
-unfolding failed_of if◌then◌else◌
+unfolding failed_of when◌then◌else◌
 returns-then-command-lt3 c =
     simp (
       c.in_phase.ensures,
@@ -14,7 +14,7 @@ returns-then-command-lt3 c =
     )
 
 pub returns : goal.returns
-unfolding failed_of if◌then◌else◌
+unfolding failed_of when◌then◌else◌
 returns c =
     simp (
       c.ended.ensures,

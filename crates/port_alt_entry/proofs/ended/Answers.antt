@@ -1,7 +1,6 @@
 -- The proof of `port_alt_entry::ended`.
 -- Assumes nothing.
 use Rattle.port.specs.AltEntry.{alt_ended}
-use borrow.Author.Rules.{rules}
 use Rattle.port_alt_entry.proofs.ended.Goals as goal
 
 pub returns : goal.returns

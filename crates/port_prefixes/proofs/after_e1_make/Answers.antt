@@ -1,14 +1,14 @@
 -- The proof of `port_prefixes::after_e1_make`.
 -- Assumes nothing.
 use borrow.Author.Tests.{eq-eqb, ne_eqb}
-use Rattle.bits.specs.Choice.{if◌then◌else◌}
+use Rattle.bits.specs.Choice.{when◌then◌else◌}
 use Rattle.port.specs.Prefix.{continued}
 use Rattle.port_prefixes.proofs.after_e1_make.Goals as goal
 
 pub returns-then-byte : goal.returns-then-byte
-unfolding continued if◌then◌else◌
+unfolding continued when◌then◌else◌
 returns-then-byte c = simp (eq-eqb _ _ c.if-byte.true)
 
 pub returns : goal.returns
-unfolding continued if◌then◌else◌
+unfolding continued when◌then◌else◌
 returns c = simp (c.opening.ensures, ne_eqb _ _ c.if-byte.false)

@@ -5,7 +5,7 @@ use Rattle.trace.proofs.Writing.{part_placed}
 use native.Mathlib.Omega.{arith}
 use lib.ListN.{length, drop, length-drop}
 use borrow.Author.Tests.{le-ltb}
-use Rattle.bits.specs.Choice.{if◌then◌else◌}
+use Rattle.bits.specs.Choice.{when◌then◌else◌}
 use Rattle.report.specs.Reported.{event_report, reported_of, written_of, buffer_of}
 use Rattle.lent_calls.specs.Lent.{reported_in}
 use Rattle.pack.proofs.Reading.{to_end}
@@ -13,7 +13,7 @@ use borrow.Author.Rules.{rules}
 use Rattle.trace_parts.proofs.report_at.Goals as goal
 
 pub returns : goal.returns
-unfolding reported_in reported_of written_of buffer_of if◌then◌else◌
+unfolding reported_in reported_of written_of buffer_of when◌then◌else◌
 returns c =
     let a = c.args in
     let enough = le-ltb (length (drop a.at a.text.now)) 44 (simp length-drop (omega arith)) in
