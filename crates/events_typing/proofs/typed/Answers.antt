@@ -15,7 +15,7 @@ returns c =
     elim c.match-device.branch [ in-Keyboard w ↦ simp (w.port-is, w.in-Keyboard.is) | in-Scanner w ↦ simp (w.port-is, w.in-Scanner.is) ] in
     let ports_are : ◌≡◌ {A = Ports} c.match-device-2.next (ports_with c.args.device c.key_byte-decoded.result.port c.args.service.ports) =
     elim c.match-device-2.branch [
-      in-Keyboard-device w ↦ simp (w.next-is, w.in-Keyboard-device.is)
-    | in-Scanner-device w ↦ simp (w.next-is, w.in-Scanner-device.is)
+      | in-Keyboard-device w ↦ simp (w.next-is, w.in-Keyboard-device.is)
+      | in-Scanner-device w ↦ simp (w.next-is, w.in-Scanner-device.is)
     ] in
     simp (c.apply.ensures, c.with_ports.ensures, ports_are, c.key_byte-decoded.ensures, port_is)

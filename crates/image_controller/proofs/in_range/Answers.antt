@@ -9,6 +9,6 @@ pub returns : goal.returns
 returns c =
     let image = c.args.image in
     elim c.if-is_other.branch [
-      then-is_other w ↦ rw w.result-is (none_held image w.if-is_other.true)
-    | else-is_other w ↦ rw w.result-is (one_held image w.if-is_other.false)
+      | then-is_other w ↦ rw w.result-is (none_held image w.if-is_other.true)
+      | else-is_other w ↦ rw w.result-is (one_held image w.if-is_other.false)
     ]

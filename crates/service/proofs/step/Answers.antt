@@ -29,6 +29,6 @@ pub returns : goal.returns
 unfolding step_of
 returns c =
     elim c.match-event.branch [
-      in-Key w ↦ simp (c.byte.ensures, w.incoming-is, w.in-Key.is)
-    | in-Scan w ↦ simp (c.byte.ensures, w.incoming-is, w.in-Scan.is)
+      | in-Key w ↦ simp (c.byte.ensures, w.incoming-is, w.in-Key.is)
+      | in-Scan w ↦ simp (c.byte.ensures, w.incoming-is, w.in-Scan.is)
     ]

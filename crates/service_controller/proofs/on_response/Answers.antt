@@ -10,8 +10,8 @@ returns-in-Key c = simp (c.step.ensures, c.in-Key.is)
 pub returns : goal.returns
 returns c =
     elim c.match-response.branch [
-      in-Accepted w ↦ simp (c.answered.ensures, w.answer-is, w.in-Accepted.is)
-    | in-Interrupt w ↦ simp (c.answered.ensures, w.answer-is, w.in-Interrupt.is)
-    | in-Byte w ↦ simp (c.answered.ensures, w.answer-is, w.in-Byte.is)
-    | in-Refused w ↦ simp (c.answered.ensures, w.answer-is, w.in-Refused.is)
+      | in-Accepted w ↦ simp (c.answered.ensures, w.answer-is, w.in-Accepted.is)
+      | in-Interrupt w ↦ simp (c.answered.ensures, w.answer-is, w.in-Interrupt.is)
+      | in-Byte w ↦ simp (c.answered.ensures, w.answer-is, w.in-Byte.is)
+      | in-Refused w ↦ simp (c.answered.ensures, w.answer-is, w.in-Refused.is)
     ]
