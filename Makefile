@@ -1,3 +1,4 @@
+# Proves and writes the static library and kbdtrace: make
 # Installs the static library, its header and its pkg-config file: make install PREFIX=/some/where
 # DESTDIR stands before each path that is written to; the pkg-config file names PREFIX alone.
 PREFIX = /usr/local
@@ -7,12 +8,20 @@ prefix = $(abspath $(PREFIX))
 library = $(DESTDIR)$(prefix)/lib
 header = $(DESTDIR)$(prefix)/include
 archive = target/staticlib/libxiquepazo.a
+program = target/bin/kbdtrace
+sources = crates.txt $(shell find crates \( -name must-fail -o -name out \) -prune -o -type f -print)
 
 .PHONY: all install
-all: $(archive)
+all: $(archive) $(program)
 
-$(archive): crates.txt $(shell find crates -name must-fail -prune -o -type f -print)
-	rt staticlib xiquepazo
+$(archive): $(sources)
+	cd crates/xiquepazo && rt lib
+	install -D -m 644 crates/xiquepazo/out/libxiquepazo.a $@
+
+# It is proved, linked, and run once on an empty pack.
+$(program): $(sources)
+	cd crates/kbdtrace && rt run < /dev/null
+	install -D crates/kbdtrace/out/kbdtrace $@
 
 install: $(archive)
 	install -d $(library)/pkgconfig $(header)
