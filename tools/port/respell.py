@@ -13,7 +13,7 @@ import subprocess
 import sys
 
 WORD = re.compile(r"[A-Za-z_][A-Za-z0-9_']*(?:-[A-Za-z0-9_']+)*")
-DECLARED = re.compile(r"^[ \t]*(?:abbrev |unfoldable |pub |record |data )*([^\s:(){},;]+)(?: \([^)\n]*\))* : (\S+)", re.M)
+DECLARED = re.compile(r"^[ \t]*(?:abbrev |unfoldable |pub |record |data )*([^\s:(){},;]+)(?: \([^)\n]*\))* :(?: (\S+)|$)", re.M)
 BINDERS = [re.compile(r"[({]([^(){}:\n]+?) : "), re.compile(r"λ ([^.(\n]+)\."), re.compile(r"let ([^\s:=]+) ")]
 # What Rattle names in the proof of a function keeps its spelling.
 GOALS = ("Proof.antt", "Answers.antt", "Invariants.antt")

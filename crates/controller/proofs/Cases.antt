@@ -10,10 +10,10 @@ use Rattle.controller.specs.Laws.{ControllerCases}
 pub controller_cases : ControllerCases
 unfolding when◌then◌else◌ weight_of byte_of new_controller is_full status_of from_keyboard_of read60_of write60_of disabled_of enabled_of write64_of responded_of
 controller_cases = record {
-  refused-write-leaves-the-wait = refl;
+  refused_write_leaves_the_wait = refl;
   enabling_ends_the_wait = refl;
-  held-key-read-while-disabled = refl;
-  key-lost-to-an-answer = refl;
-  refused-write-leaves-bit-three = refl;
-  command-byte-read-back = refl;
+  held_key_read_while_disabled = refl;
+  key_lost_to_an_answer = refl;
+  refused_write_leaves_bit_three = refl;
+  command_byte_read_back = refl;
 }

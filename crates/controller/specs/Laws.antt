@@ -78,17 +78,17 @@ responses_to controller [] = []
 responses_to controller (event ∷ more) = (responded_of controller event).response ∷ responses_to (responded_of controller event).controller more
 
 pub record ControllerCases : Type 0 where
-  pub refused-write-leaves-the-wait :
+  pub refused_write_leaves_the_wait :
       responses_to new_controller (Write64 0x60 ∷ Write64 0xFF ∷ Write60 0x00 ∷ []) ≡ Accepted ∷ Refused Command ∷ Accepted ∷ []
   pub enabling_ends_the_wait : responses_to new_controller (Write64 0x60 ∷ Write64 0xAE ∷ Write60 0x00 ∷ []) ≡ Accepted ∷ Accepted ∷ Refused Unawaited ∷ []
-  pub held-key-read-while-disabled :
+  pub held_key_read_while_disabled :
       responses_to new_controller (FromKeyboard 0x1E ∷ Write64 0xAD ∷ Read64 ∷ Read60 ∷ FromKeyboard 0x9E ∷ [])
       ≡ Interrupt ∷ Accepted ∷ Byte 0x1D ∷ Key 0x1E ∷ Refused Busy ∷ []
-  pub key-lost-to-an-answer :
+  pub key_lost_to_an_answer :
       responses_to new_controller (FromKeyboard 0x1E ∷ Write64 0x20 ∷ Read60 ∷ Read60 ∷ Read64 ∷ [])
       ≡ Interrupt ∷ Accepted ∷ Byte 0x01 ∷ Byte 0x01 ∷ Byte 0x1C ∷ []
-  pub refused-write-leaves-bit-three :
+  pub refused_write_leaves_bit_three :
       responses_to new_controller (Write64 0x60 ∷ Write60 0x00 ∷ Write64 0xFF ∷ Read64 ∷ []) ≡ Accepted ∷ Accepted ∷ Refused Command ∷ Byte 0x14 ∷ []
-  pub command-byte-read-back :
+  pub command_byte_read_back :
       responses_to new_controller (Write64 0xAD ∷ Write64 0x20 ∷ Read60 ∷ Write64 0xAE ∷ Write64 0x20 ∷ Read60 ∷ Write64 0xAA ∷ Read60 ∷ [])
       ≡ Accepted ∷ Accepted ∷ Byte 0x11 ∷ Accepted ∷ Accepted ∷ Byte 0x01 ∷ Accepted ∷ Byte 0x55 ∷ []

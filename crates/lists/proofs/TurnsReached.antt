@@ -72,12 +72,12 @@ both_reach_eleven = record {
     wanted = refl;
     keep = all_keep Rate 2 4 (after_items (new_service One 0) rate_earlier) (slowly ++ (Poll ∷ slowly)) rate_is_no_led refl;
     bytes = refl;
-    then-first = refl;
+    then_first = refl;
   };
   led = record {
     wanted = refl;
     keep = all_keep Led 4 4 (after_items (new_service One 0) led_earlier) (slowly ++ (Poll ∷ slowly)) (λ _. refl) refl;
     bytes = refl;
-    then-first = refl;
+    then_first = refl;
   };
 }

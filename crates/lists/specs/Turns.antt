@@ -119,7 +119,7 @@ pub record ReachesEleven (kind : Kind) (operand : ℕ) (earlier : List Item) : T
   pub wanted : Wanted kind operand (after_items (new_service One 0) earlier).line
   pub keep : AllKeep kind operand (after_items (new_service One 0) earlier) two_commands
   pub bytes : bytes_before kind (shown_in (seen_items (after_items (new_service One 0) earlier) two_commands)) ≡ 11
-  pub then-first :
+  pub then_first :
       shows_first kind (shown_by (step_item (after_items (after_items (new_service One 0) earlier) two_commands) (runs Poll))) ≡ true
 
 -- LED value 0 is done, a rate's command sends its first byte, Caps makes LED value 4 due, and a rate is accepted
