@@ -2,7 +2,7 @@
  * A burst: a scanner has read a bin number of twenty characters, and all its bytes wait when the panel comes to them.
  * The queue has room for fifteen words, so the panel fetches after each byte. Another, which fetches last, loses words.
  *
- *   rt staticlib xiquepazo
+ *   make
  *   gcc -std=c99 -Wall -Wextra -Werror -pedantic -Iinclude examples/burst.c target/staticlib/libxiquepazo.a -o burst
  *   ./burst | cmp - examples/burst.expected
  */

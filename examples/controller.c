@@ -2,7 +2,7 @@
  * An emulated panel, in little: its program knows the keyboard by ports 60 and 64 and by interrupt 1. The keyboard hands its bytes to the
  * controller, the program's interrupt handler reads them, and its main loop takes the words.
  *
- *   rt staticlib xiquepazo
+ *   make
  *   gcc -std=c99 -Wall -Wextra -Werror -pedantic -Iinclude examples/controller.c target/staticlib/libxiquepazo.a -o controller
  *   ./controller | cmp - examples/controller.expected
  */

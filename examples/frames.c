@@ -2,7 +2,7 @@
  * A board without a controller chip, in little: it collects the keyboard's frames bit by bit, counts those that noise spoiled, and clocks out
  * what the service has to send.
  *
- *   rt staticlib xiquepazo
+ *   make
  *   gcc -std=c99 -Wall -Wextra -Werror -pedantic -Iinclude examples/frames.c target/staticlib/libxiquepazo.a -o frames
  *   ./frames | cmp - examples/frames.expected
  */

@@ -1,7 +1,7 @@
 /*
  * Runs a pack on a new service, as kbdtrace does: each event is read, run and reported, and two lines close the trace.
  *
- *   rt staticlib xiquepazo
+ *   make
  *   gcc -std=c99 -Wall -Wextra -Werror -pedantic -Iinclude examples/pack.c target/staticlib/libxiquepazo.a -o pack
  *   ./pack < samples/shift-a.pack | cmp - samples/shift-a.txt
  */

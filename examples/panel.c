@@ -1,7 +1,7 @@
 /*
  * A panel in little: bytes from a keyboard go in, words come out, lamps are set, and events are reported.
  *
- *   rt staticlib xiquepazo
+ *   make
  *   gcc -std=c99 -Wall -Wextra -Werror -pedantic -Iinclude examples/panel.c target/staticlib/libxiquepazo.a -o panel
  *   ./panel | cmp - examples/panel.expected
  */

@@ -2,7 +2,7 @@
  * A panel with a scanner beside its keyboard, in little: the keyboard's cable is cut in the middle of Pause while the scanner reads a bin
  * number, and is plugged in again.
  *
- *   rt staticlib xiquepazo
+ *   make
  *   gcc -std=c99 -Wall -Wextra -Werror -pedantic -Iinclude examples/scanner.c target/staticlib/libxiquepazo.a -o scanner
  *   ./scanner | cmp - examples/scanner.expected
  */

@@ -1,7 +1,7 @@
 /*
  * A panel for keyboards of set 2, in little: one types and is unplugged between a mark and its code, the next types and is switched to set 1.
  *
- *   rt staticlib xiquepazo
+ *   make
  *   gcc -std=c99 -Wall -Wextra -Werror -pedantic -Iinclude examples/set_2.c target/staticlib/libxiquepazo.a -o set_2
  *   ./set_2 | cmp - examples/set_2.expected
  */

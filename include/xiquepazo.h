@@ -1,7 +1,7 @@
 /*
  * The aisle panel's AT keyboard service, from C (C99 or later) or C++.
  *
- * Link target/staticlib/libxiquepazo.a, which `rt staticlib xiquepazo` writes; it needs no other library. x86-64 Linux.
+ * Link target/staticlib/libxiquepazo.a, which `make` writes; it needs no other library. x86-64 Linux.
  *
  * The caller keeps the service, as a struct of numbers, and lends it to each call. Every call is proved against the definitions of document
  * 01 and of the requests of document 02. It trusts none of the numbers: whatever they are, they mean some service. What it does trust is the
@@ -11,7 +11,7 @@
  *
  * A call is made as the System V ABI for x86-64 has it: at the call instruction the stack pointer is a multiple of 16,
  * and the direction flag is clear. SSE is enabled: CR0.EM and CR0.TS are 0, CR4.OSFXSR is 1. A call takes at most
- * XIQUEPAZO_STACK bytes of stack. Of the vector registers it uses xmm0 to xmm4, and it uses neither AVX nor x87.
+ * XIQUEPAZO_STACK bytes of stack. Of the vector registers it uses xmm0 to xmm10, and it uses neither AVX nor x87.
  *
  * During a call interrupts are off, or they are taken on a stack of their own: an IST stack or, where the call runs in
  * user mode, the kernel's. A call uses the 128 bytes below its stack pointer, and an interrupt on the same stack

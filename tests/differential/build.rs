@@ -1,4 +1,4 @@
-//! Links the static library `xiquepazo`, which `rt staticlib xiquepazo` proves and writes.
+//! Links the static library `xiquepazo`, which `make` proves and writes.
 
 use std::path::PathBuf;
 use std::{env, process};
@@ -11,7 +11,7 @@ fn main() {
     let folder = env::var_os(FOLDER).map_or_else(default, PathBuf::from);
     let Ok(archive) = folder.join("libxiquepazo.a").canonicalize() else {
         eprintln!(
-            "no libxiquepazo.a in {}: run `rt staticlib xiquepazo`",
+            "no libxiquepazo.a in {}: run `make`",
             folder.display()
         );
         process::exit(1);

@@ -18,7 +18,7 @@ fn fill(report: Report, buffer: &mut [u8])
     let high = digits::high_byte(report.word);
     let low = digits::low_byte(report.word);
     let blank = BLANK;
-    buffer[..LENGTH].copy_from_slice(&blank);
+    buffer[..blank.len()].copy_from_slice(&blank);
     buffer[3] = report.tag;
     buffer[9] = digits::high(report.ans);
     buffer[10] = digits::low(report.ans);

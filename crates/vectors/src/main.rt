@@ -1,11 +1,12 @@
 // Writes the trace of each pack that an argument names, under a line with that name.
 #![tactic(auto)]
 
+use std::env::{Env, FillError};
 use std::fs::File;
-use std::{env, io};
+use std::{io, str};
 use trace_file::Traced;
 
-// The line of one argument and the trace of the file that it names.
+// The line of one name and the trace of the file that it names.
 fn write_named(rt: &HostRuntime, name: &str) -> io::Result<()> {
     let mut file = match File::open(rt, name) {
         Ok(file) => file,
@@ -20,8 +21,16 @@ fn write_named(rt: &HostRuntime, name: &str) -> io::Result<()> {
 }
 
 fn main(rt: HostRuntime) -> io::Result<()> {
-    for name in env::args(&rt)?.skip(1) {
-        write_named(&rt, name.as_str())?;
+    let mut name = [0; 4096];
+    for argument in 1..usize::MAX {
+        match rt.arg(argument, &mut name) {
+            Ok(length) => match str::from_utf8(&name[..length]) {
+                Ok(name) => write_named(&rt, name)?,
+                Err(_) => eprintln!(rt; "argument {argument}: no text")?,
+            },
+            Err(FillError::TooLong) => eprintln!(rt; "argument {argument}: too long")?,
+            Err(FillError::NotPresent) => break,
+        }
     }
     Ok(())
 }

@@ -10,7 +10,7 @@ use std::thread;
 pub fn trace(program: &OsStr, pack: &[u8]) -> Result<Vec<u8>, String> {
     let name = program.to_string_lossy();
     let output = run(program, pack).map_err(|error| {
-        format!("{name} does not run: {error} (`rt check kbdtrace` makes {KBDTRACE})")
+        format!("{name} does not run: {error} (`make` makes {KBDTRACE})")
     })?;
     if !output.status.success() {
         return Err(format!("{name} ended with {}", output.status));
