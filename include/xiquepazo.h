@@ -11,7 +11,7 @@
  *
  * A call is made as the System V ABI for x86-64 has it: at the call instruction the stack pointer is a multiple of 16,
  * and the direction flag is clear. SSE is enabled: CR0.EM and CR0.TS are 0, CR4.OSFXSR is 1. A call takes at most
- * XIQUEPAZO_STACK bytes of stack. Of the vector registers it uses xmm0 to xmm10, and it uses neither AVX nor x87.
+ * XIQUEPAZO_STACK bytes of stack. Of the vector registers it uses xmm0 to xmm3, and it uses neither AVX nor x87.
  *
  * During a call interrupts are off, or they are taken on a stack of their own: an IST stack or, where the call runs in
  * user mode, the kernel's. A call uses the 128 bytes below its stack pointer, and an interrupt on the same stack

@@ -61,6 +61,7 @@ pub struct Responded {
 }
 
 // The controller as it is made, and as R leaves it.
+#[tactic(auto, unfolding(crate::specs::State::new_controller))]
 pub fn new() -> Controller
     ensures { result ≡ new_controller }
 {
@@ -73,14 +74,11 @@ pub fn new() -> Controller
 }
 
 // Whether there is a byte to read.
+#[tactic(auto, unfolding(crate::specs::State::is_full))]
 pub fn full(buffer: Buffer) -> bool
     ensures { result ≡ is_full buffer }
 {
-    match buffer {
-        Buffer::Empty(_) => false,
-        Buffer::Key(_) => true,
-        Buffer::Answer(_) => true,
-    }
+    !matches!(buffer, Buffer::Empty(_))
 }
 
 // The status, which port 64 gives.
@@ -105,34 +103,19 @@ pub fn byte_in(response: Response) -> u8
     ensures { result ≡ byte_in response }
 {
     match response {
-        Response::Accepted => 0,
-        Response::Interrupt => 0,
-        Response::Byte(byte) => byte,
-        Response::Key(byte) => byte,
-        Response::Refused(_) => 0,
+        Response::Byte(byte) | Response::Key(byte) => byte,
+        _ => 0,
     }
 }
 
 pub fn interrupt_in(response: Response) -> bool
     ensures { result ≡ interrupt_in response }
 {
-    match response {
-        Response::Accepted => false,
-        Response::Interrupt => true,
-        Response::Byte(_) => false,
-        Response::Key(_) => false,
-        Response::Refused(_) => false,
-    }
+    matches!(response, Response::Interrupt)
 }
 
 pub fn is_key_in(response: Response) -> bool
     ensures { result ≡ is_key_in response }
 {
-    match response {
-        Response::Accepted => false,
-        Response::Interrupt => false,
-        Response::Byte(_) => false,
-        Response::Key(_) => true,
-        Response::Refused(_) => false,
-    }
+    matches!(response, Response::Key(_))
 }

@@ -12,9 +12,7 @@ fn holding(controller: Controller, buffer: Buffer) -> Controller
 {
     Controller {
         buffer,
-        command: controller.command,
-        awaiting: controller.awaiting,
-        commanded: controller.commanded,
+        ..controller
     }
 }
 
@@ -78,6 +76,7 @@ fn from_keyboard(controller: Controller, byte: u8) -> Responded
     }
 }
 
+#[tactic(auto, unfolding(controller::specs::PortEvents::read60_of))]
 fn read_60(controller: Controller) -> Responded
     ensures { result ≡ read60_of controller controller.buffer }
 {
@@ -103,12 +102,11 @@ fn write_60(controller: Controller, byte: u8) -> Responded
     ensures { result ≡ write60_of controller byte }
 {
     if controller.awaiting {
-        let buffer = controller.buffer;
         let next = Controller {
-            buffer,
             command: byte,
             awaiting: false,
             commanded: false,
+            ..controller
         };
         return Responded {
             controller: next,
@@ -141,6 +139,7 @@ fn write_64(controller: Controller, byte: u8) -> Responded
 }
 
 // One port event.
+#[tactic(auto, unfolding(controller::specs::PortEvents::responded_of))]
 pub fn respond(controller: Controller, event: PortEvent) -> Responded
     ensures { result ≡ responded_of controller event }
 {

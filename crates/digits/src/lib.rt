@@ -19,28 +19,13 @@ fn low_nibble(byte: u8) -> u8
     byte & 0x0F
 }
 
-// The character of a number from 0 to 15; of a greater one, that of its last digit. Sixteen constant arms are compiled to one load from a table.
+const CHARACTERS: [u8; 16] = *b"0123456789ABCDEF";
+
+// The character of a number from 0 to 15; of a greater one, that of its last digit.
 pub fn digit(number: u8) -> u8
     ensures { result ≡ digit_of number }
 {
-    match low_nibble(number) {
-        0 => b'0',
-        1 => b'1',
-        2 => b'2',
-        3 => b'3',
-        4 => b'4',
-        5 => b'5',
-        6 => b'6',
-        7 => b'7',
-        8 => b'8',
-        9 => b'9',
-        10 => b'A',
-        11 => b'B',
-        12 => b'C',
-        13 => b'D',
-        14 => b'E',
-        _ => b'F',
-    }
+    CHARACTERS[low_nibble(number) as usize]
 }
 
 // The first of a byte's two digits.

@@ -1,5 +1,6 @@
 -- What an event does not look at, it leaves: what is put aside may be the port of a device or the controller, and one argument serves both.
 -- Assumes nothing.
+use Rattle.std.specs.Prelude.{Option, None, Some}
 use Prim.Native.Nat.{ℕ}
 use mathlib.Core.Path.{◌≡◌, refl}
 use mathlib.Core.Bool.{true}
@@ -10,8 +11,6 @@ use Rattle.word.specs.OldWord.{old_word_of}
 use Rattle.port.specs.declared.Effect.{Effect}
 use Rattle.port.specs.declared.Effect.TheVariants as effect
 use Rattle.controller.specs.declared.Controller.{Controller}
-use Rattle.translation.specs.declared.Passed.{Passed}
-use Rattle.translation.specs.declared.Passed.TheVariants.{Nothing, Byte}
 use Rattle.translation.specs.Translation.{translated_of}
 use Rattle.state.specs.declared.Device.TheVariants.{Keyboard, Scanner}
 use Rattle.state.specs.declared.Ports.{Ports}
@@ -59,10 +58,10 @@ module _ (ports : Ports → Ports) (controllers : Controller → Controller) whe
     unfolding read_of acknowledge_of resend_of on_line
     read_apart service byte = both Apart _ (record { is = refl }) (both Apart _ (record { is = refl }) (typed service byte))
 
-    passed_apart : (service : Service) (p : Passed) → Apart (on_passed (aside service) p) (on_passed service p)
+    passed_apart : (service : Service) (p : Option ℕ) → Apart (on_passed (aside service) p) (on_passed service p)
     unfolding answered_of
-    passed_apart service Nothing = record { is = refl }
-    passed_apart service (Byte byte) = read_apart service byte
+    passed_apart service None = record { is = refl }
+    passed_apart service (Some byte) = read_apart service byte
 
     pub key_apart : (service : Service) (byte : ℕ) → Apart (key_of (aside service) byte) (key_of service byte)
     unfolding key_of

@@ -1,5 +1,6 @@
 -- What each event gives the line: one input or none. Only a poll shows a byte.
 -- Assumes nothing.
+use Rattle.std.specs.Prelude.{Option, None, Some}
 use Prim.Native.Nat.{ℕ, ◌+◌, ◌*◌}
 use mathlib.Core.Path.{◌≡◌, refl, ap}
 use mathlib.Core.Bool.{true, false}
@@ -12,8 +13,6 @@ use Rattle.port.specs.declared.Effect.TheVariants as effect
 use Rattle.port.specs.KeyByte.{key_byte_of}
 use Rattle.word.specs.declared.Word.{Word}
 use Rattle.word.specs.OldWord.{old_word_of}
-use Rattle.queue.specs.declared.Oldest.{Oldest}
-use Rattle.queue.specs.declared.Oldest.TheVariants.{None, Is}
 use Rattle.queue.specs.Queue as queue
 use Rattle.line.specs.declared.Answer.{Answer as LineAnswer}
 use Rattle.line.specs.declared.Answer.TheVariants as line-answer
@@ -25,8 +24,6 @@ use Rattle.line.specs.Reply as reply
 use Rattle.line.specs.Laws.{sends_by}
 use Rattle.line.specs.Turns.{bytes_at}
 use Rattle.line.proofs.Cases.{acknowledge_cases, failed_cases}
-use Rattle.translation.specs.declared.Passed.{Passed}
-use Rattle.translation.specs.declared.Passed.TheVariants as passed
 use Rattle.translation.specs.Translation.{translated_of}
 use Rattle.controller.specs.declared.PortEvent.{PortEvent}
 use Rattle.controller.specs.declared.PortRefusal.{PortRefusal}
@@ -155,9 +152,9 @@ read_beside service byte =
     either (Beside service.line) _ _ _ (acknowledge_beside service)
     (either (Beside service.line) _ _ _ (resend_beside service) (typed_beside Keyboard service byte))
 
-passed_beside : (service : Service) (p : Passed) → Beside service.line (on_passed service p)
-passed_beside service passed.Nothing = answered_beside _ service _ refl (record { silent = refl })
-passed_beside service (passed.Byte byte) = read_beside service byte
+passed_beside : (service : Service) (p : Option ℕ) → Beside service.line (on_passed service p)
+passed_beside service None = answered_beside _ service _ refl (record { silent = refl })
+passed_beside service (Some byte) = read_beside service byte
 
 key_beside : (service : Service) (byte : ℕ) → Beside service.line (key_of service byte)
 unfolding key_of
@@ -166,9 +163,9 @@ key_beside service byte =
 
 -- ---- calls
 
-silent_oldest : (returned : Word → Word) (oldest : Oldest) → Silent (oldest_answer returned oldest)
+silent_oldest : (returned : Word → Word) (oldest : Option Word) → Silent (oldest_answer returned oldest)
 silent_oldest returned None = record { silent = refl }
-silent_oldest returned (Is word) = record { silent = refl }
+silent_oldest returned (Some word) = record { silent = refl }
 
 module _ (service : Service) (function a b : ℕ) where
   abbrev Called : Outcome → Type 0

@@ -1,5 +1,6 @@
 -- The queue over lists of events is the list of words that the answers tell.
 -- Assumes nothing.
+use Rattle.std.specs.Prelude.{Option, None, Some}
 use Prim.Native.Nat.{ℕ, ◌<◌}
 use native.Mathlib.Omega.{arith}
 use mathlib.Core.Path.{◌≡◌, refl, sym, ap, ◌∙◌}
@@ -24,8 +25,6 @@ use Rattle.line.specs.declared.Answer.{Answer as LineAnswer}
 use Rattle.line.specs.declared.Answer.TheVariants as line-answer
 use Rattle.line.specs.declared.Outcome.{Outcome as LineOutcome}
 use Rattle.translation.specs.declared.CodeSet.{CodeSet}
-use Rattle.translation.specs.declared.Passed.{Passed}
-use Rattle.translation.specs.declared.Passed.TheVariants as passed
 use Rattle.translation.specs.Translation.{translated_of}
 use Rattle.state.specs.declared.Device.{Device}
 use Rattle.state.specs.declared.Device.TheVariants.{Keyboard, Scanner}
@@ -155,10 +154,10 @@ read_tells service raw byte w =
     either (Tells (Key raw) (words_of service.queue)) _ _ _ (acknowledge_tells service raw w)
     (either (Tells (Key raw) (words_of service.queue)) _ _ _ (resend_tells service raw w) (typed_tells (Key raw) Keyboard service byte w))
 
-passed_tells : (service : Service) (raw : ℕ) (p : Passed) → Whole service.queue → Tells (Key raw) (words_of service.queue) (on_passed service p)
+passed_tells : (service : Service) (raw : ℕ) (p : Option ℕ) → Whole service.queue → Tells (Key raw) (words_of service.queue) (on_passed service p)
 unfolding answered_of
-passed_tells service raw passed.Nothing w = record { told = same service.queue w (record { words = λ _. refl; fits = λ _. tt }) }
-passed_tells service raw (passed.Byte byte) w = read_tells service raw byte w
+passed_tells service raw None w = record { told = same service.queue w (record { words = λ _. refl; fits = λ _. tt }) }
+passed_tells service raw (Some byte) w = read_tells service raw byte w
 
 key_tells : (service : Service) (byte : ℕ) → Whole service.queue → Tells (Key byte) (words_of service.queue) (key_of service byte)
 unfolding key_of

@@ -1,5 +1,6 @@
 -- Every event keeps a service in range, since the queue's calls and the line's inputs do.
 -- Assumes nothing.
+use Rattle.std.specs.Prelude.{Option, None, Some}
 use Prim.Native.Nat.{ℕ, ◌+◌, ◌*◌, ◌<◌, ◌≤◌}
 use native.Mathlib.Omega.{arith}
 use mathlib.Core.Bool.{Bool, true, false}
@@ -17,8 +18,6 @@ use Rattle.queue.proofs.Laws.{queue_stays_in_range}
 use Rattle.line.specs.Inputs as input
 use Rattle.line.specs.Ranges.{led_values, rate_values, InputInRange}
 use Rattle.line.proofs.Ranges.{line_stays_in_range}
-use Rattle.translation.specs.declared.Passed.{Passed}
-use Rattle.translation.specs.declared.Passed.TheVariants as passed
 use Rattle.translation.specs.Translation.{translated_of}
 use Rattle.state.specs.declared.Device.{Device}
 use Rattle.state.specs.declared.Device.TheVariants.{Keyboard, Scanner}
@@ -93,9 +92,9 @@ read_in service byte h =
     (either Left _ _ _ (record { left = line_in service input.resend tt h })
     (typed_in Keyboard service byte h))
 
-passed_in : (service : Service) (p : Passed) → InRange service → Left (on_passed service p)
-passed_in service passed.Nothing h = answered_in service _ h
-passed_in service (passed.Byte byte) h = read_in service byte h
+passed_in : (service : Service) (p : Option ℕ) → InRange service → Left (on_passed service p)
+passed_in service None h = answered_in service _ h
+passed_in service (Some byte) h = read_in service byte h
 
 key_in : (service : Service) (byte : ℕ) → InRange service → Left (key_of service byte)
 unfolding key_of

@@ -1,5 +1,6 @@
 -- Refused C events change nothing, so they can be taken out of any list.
 -- Assumes nothing.
+use Rattle.std.specs.Prelude.{Option, None, Some}
 use Prim.Native.Nat.{ℕ}
 use mathlib.Core.Path.{◌≡◌, refl, ap, sym, ◌∙◌}
 use mathlib.Core.Bool.{Bool, true, false, true≢false}
@@ -16,15 +17,11 @@ use Rattle.port.specs.declared.Effect.{Effect}
 use Rattle.port.specs.declared.Effect.TheVariants as effect
 use Rattle.port.specs.KeyByte.{key_byte_of}
 use Rattle.queue.specs.declared.Queue.{Queue}
-use Rattle.queue.specs.declared.AfterPut.{AfterPut}
-use Rattle.queue.specs.declared.Oldest.{Oldest}
-use Rattle.queue.specs.declared.Oldest.TheVariants.{None, Is}
+use Rattle.queue.specs.Queue.{AfterPut}
 use Rattle.queue.specs.Queue as queue
 use Rattle.line.specs.declared.Answer.{Answer as LineAnswer}
 use Rattle.line.specs.declared.Answer.TheVariants as line-answer
 use Rattle.line.specs.declared.Outcome.{Outcome as LineOutcome}
-use Rattle.translation.specs.declared.Passed.{Passed}
-use Rattle.translation.specs.declared.Passed.TheVariants as passed
 use Rattle.translation.specs.Translation.{translated_of}
 use Rattle.state.specs.declared.Device.{Device}
 use Rattle.state.specs.declared.Device.TheVariants.{Keyboard, Scanner}
@@ -67,9 +64,9 @@ unchanged outcome e few = record { kept = λ _. e; few = few }
 
 -- ---- the answers of keys and of the line
 
-accept_oldest : (returned : Word → Word) (oldest : Oldest) → Accepts (oldest_answer returned oldest)
+accept_oldest : (returned : Word → Word) (oldest : Option Word) → Accepts (oldest_answer returned oldest)
 accept_oldest returned None = record { low = refl }
-accept_oldest returned (Is word) = record { low = refl }
+accept_oldest returned (Some word) = record { low = refl }
 
 accept_line : (answer : LineAnswer) (when_taken : Answer) → Accepts when_taken → Accepts (line_answer answer when_taken)
 accept_line (line-answer.Send byte) when_taken h = record { low = refl }
@@ -111,10 +108,10 @@ unfolding read_of
 read_accepted service byte =
     either Accepted _ _ _ (acknowledge_accepted service) (either Accepted _ _ _ (resend_accepted service) (typed_accepted Keyboard service byte))
 
-passed_accepted : (service : Service) (p : Passed) → Accepted (on_passed service p)
+passed_accepted : (service : Service) (p : Option ℕ) → Accepted (on_passed service p)
 unfolding answered_of
-passed_accepted service passed.Nothing = record { low = refl }
-passed_accepted service (passed.Byte byte) = read_accepted service byte
+passed_accepted service None = record { low = refl }
+passed_accepted service (Some byte) = read_accepted service byte
 
 -- a K event is never refused
 key_accepts : (service : Service) (byte : ℕ) → Accepted (key_of service byte)

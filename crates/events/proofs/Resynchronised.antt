@@ -1,5 +1,6 @@
 -- From every service, reached or not, the all-up run at both ports in any turns, E and R lead to the service newly made on its set with the same locks.
 -- Assumes nothing.
+use Rattle.std.specs.Prelude.{Option, None, Some}
 use Prim.Native.Nat.{ℕ, ◌-◌}
 use mathlib.Core.Path.{◌≡◌, refl, ap, sym, ◌∙◌}
 use mathlib.Core.Bool.{Bool, true, false, ◌&&◌, ◌||◌, not, and-false}
@@ -26,8 +27,6 @@ use Rattle.translation.specs.declared.CodeSet.{CodeSet}
 use Rattle.translation.specs.declared.CodeSet.TheVariants.{One}
 use Rattle.translation.specs.declared.Codes.{Codes}
 use Rattle.translation.specs.declared.Codes.TheVariants.{SetOne, SetTwo, SetTwoMarked}
-use Rattle.translation.specs.declared.Passed.{Passed}
-use Rattle.translation.specs.declared.Passed.TheVariants.{Nothing, Byte}
 use Rattle.translation.specs.Translation.{unmarked_of, translated_of, passed_on, translation, codes_after}
 use Rattle.translation.proofs.Laws.{set_back}
 use Rattle.controller.specs.State.{new_controller}
@@ -186,11 +185,11 @@ module _ {locks : Locks} where
         same_codes = ahead.same_codes;
       })
 
-  passed_ahead : {codes : Codes} {keys scans : List ℕ} (service : Service) (passed : Passed) → Ahead locks codes (passed_on passed keys) scans (kept_of service)
+  passed_ahead : {codes : Codes} {keys scans : List ℕ} (service : Service) (passed : Option ℕ) → Ahead locks codes (passed_on passed keys) scans (kept_of service)
       → Ahead locks codes keys scans (kept_of (on_passed service passed).service)
   unfolding answered_of
-  passed_ahead service Nothing ahead = ahead
-  passed_ahead service (Byte byte) ahead = read_ahead service byte ahead
+  passed_ahead service None ahead = ahead
+  passed_ahead service (Some byte) ahead = read_ahead service byte ahead
 
   key_ahead : {codes : Codes} {scans : List ℕ} (service : Service) (byte : ℕ) (keys : List ℕ)
       → Ahead locks codes (translation codes (byte ∷ keys)) scans (kept_of service)

@@ -1,5 +1,6 @@
 -- What is typed on set 2 is what its translation types on set 1, since nothing but the translation looks at the codes.
 -- Assumes nothing.
+use Rattle.std.specs.Prelude.{Option, None, Some}
 use Prim.Native.Nat.{ℕ}
 use mathlib.Core.Path.{◌≡◌, refl, ap, sym, ◌∙◌}
 use mathlib.Core.Bool.{Bool, true, false}
@@ -13,8 +14,6 @@ use Rattle.port.specs.KeyByte.{key_byte_of}
 use Rattle.translation.specs.declared.CodeSet.TheVariants.{One, Two}
 use Rattle.translation.specs.declared.Codes.{Codes}
 use Rattle.translation.specs.declared.Codes.TheVariants.{SetOne, SetTwo, SetTwoMarked}
-use Rattle.translation.specs.declared.Passed.{Passed}
-use Rattle.translation.specs.declared.Passed.TheVariants.{Nothing, Byte}
 use Rattle.translation.specs.declared.Translated.{Translated}
 use Rattle.translation.specs.Translation.{set_of, passes, from_set_two, translated_of, passed_on, translation, codes_after}
 use Rattle.translation.specs.Laws.{is_no_code}
@@ -97,11 +96,11 @@ record First (service : Service) (translated : Translated) (more : List ℕ) : T
       after outcome.service (map Key more)
       ≡ with_codes (after_read service (passed_on translated.passed (translation translated.codes more))) (codes_after translated.codes more)
 
-first : (service : Service) (codes : Codes) (passed : Passed) (more : List ℕ) → ((later : Service) → Read later codes more)
+first : (service : Service) (codes : Codes) (passed : Option ℕ) (more : List ℕ) → ((later : Service) → Read later codes more)
     → First service (record { codes = codes; passed = passed }) more
 unfolding answered_of
-first service codes Nothing more h = record { shown = (h service).shown; last = (h service).last }
-first service codes (Byte byte) more h =
+first service codes None more h = record { shown = (h service).shown; last = (h service).last }
+first service codes (Some byte) more h =
     let is = read_apart service codes byte in
     let later = h (read_of service byte).service in
     record {
@@ -153,7 +152,7 @@ bytes_as_translated service codes bytes =
 
 -- ---- strokes
 
-mark_marks : translated_of SetTwo 0xF0 ≡ record { codes = SetTwoMarked; passed = Nothing }
+mark_marks : translated_of SetTwo 0xF0 ≡ record { codes = SetTwoMarked; passed = None }
 unfolding translated_of from_set_two when◌then◌else◌
 mark_marks = refl
 
@@ -222,10 +221,10 @@ translated_stays SetTwoMarked byte = from_two_stays SetTwoMarked byte _ refl
 record On (codes : Codes) (outcome : Outcome) : Type 0 where
   same : outcome.service.codes ≡ codes
 
-passed_on_lem : (service : Service) (codes : Codes) (passed : Passed) → On codes (on_passed (with_codes service codes) passed)
+passed_on_lem : (service : Service) (codes : Codes) (passed : Option ℕ) → On codes (on_passed (with_codes service codes) passed)
 unfolding answered_of
-passed_on_lem service codes Nothing = record { same = refl }
-passed_on_lem service codes (Byte byte) = record { same = ap (λ (o : Outcome). o.service.codes) (read_apart service codes byte) }
+passed_on_lem service codes None = record { same = refl }
+passed_on_lem service codes (Some byte) = record { same = ap (λ (o : Outcome). o.service.codes) (read_apart service codes byte) }
 
 call_on_lem : (service : Service) (function a b : ℕ) → On service.codes (step_of service (Call function a b))
 unfolding step_of for_old_program take_of look_of status_of set_rate_of offered_of answered_of

@@ -1,6 +1,6 @@
 -- Document 01, "Keyboard bytes": step 1, and what the port's effect does to the queue. Document 02, W-203: what stands before step 1; W-206: a scanner byte.
 -- Assumes nothing.
-use Rattle.std.specs.Prelude.{ℕ, ◌||◌, eqb}
+use Rattle.std.specs.Prelude.{ℕ, ◌||◌, eqb, Option, None, Some}
 use Rattle.bits.specs.Choice.{when◌then◌else◌}
 use Rattle.word.specs.declared.Word.{Word}
 use Rattle.word.specs.Word.{code_of, ascii_of, word_with}
@@ -8,8 +8,6 @@ use Rattle.port.specs.declared.Effect.{Effect}
 use Rattle.port.specs.declared.Effect.TheVariants as effect
 use Rattle.port.specs.KeyByte.{key_byte_of}
 use Rattle.queue.specs.Queue as queue
-use Rattle.translation.specs.declared.Passed.{Passed}
-use Rattle.translation.specs.declared.Passed.TheVariants as passed
 use Rattle.translation.specs.Translation.{translated_of}
 use Rattle.state.specs.declared.Device.{Device}
 use Rattle.state.specs.declared.Device.TheVariants.{Keyboard, Scanner}
@@ -52,9 +50,9 @@ read_of service byte =
     else typed_of Keyboard service byte
 
 -- before step 1 a byte is translated; a mark has nothing to tell
-abbrev pub on_passed : Service → Passed → Outcome
-on_passed service passed.Nothing = answered_of service Nothing
-on_passed service (passed.Byte byte) = read_of service byte
+abbrev pub on_passed : Service → Option ℕ → Outcome
+on_passed service None = answered_of service Nothing
+on_passed service (Some byte) = read_of service byte
 
 unfoldable pub key_of : Service → ℕ → Outcome
 key_of service byte =

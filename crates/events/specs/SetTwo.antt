@@ -1,13 +1,11 @@
 -- Document 02, W-203, as laws: what a keyboard of set 2 types. SetTwo.antt of proofs/ proves each sentence.
 -- Assumes nothing.
-use Rattle.std.specs.Prelude.{ℕ, ◌≡◌, Bool, false, List, [], ◌∷◌, ◌++◌, map}
+use Rattle.std.specs.Prelude.{ℕ, ◌≡◌, Bool, false, List, [], ◌∷◌, ◌++◌, map, Option, None, Some}
 use Rattle.bits.specs.Choice.{when◌then◌else◌}
 use Rattle.translation.specs.declared.CodeSet.{CodeSet}
 use Rattle.translation.specs.declared.CodeSet.TheVariants.{One, Two}
 use Rattle.translation.specs.declared.Codes.{Codes}
 use Rattle.translation.specs.declared.Codes.TheVariants.{SetOne, SetTwo}
-use Rattle.translation.specs.declared.Passed.{Passed}
-use Rattle.translation.specs.declared.Passed.TheVariants.{Nothing, Byte}
 use Rattle.translation.specs.Translation.{set_one_code, break_of, translated_of, translation, codes_after}
 use Rattle.translation.specs.Laws.{is_no_code}
 use Rattle.state.specs.declared.Service.{Service}
@@ -22,9 +20,9 @@ abbrev pub EventsKeepSet : Type 0
 EventsKeepSet = (service : Service) (event : Event) → set_in (next service event) ≡ set_in service
 
 -- what bytes show, without what their marks show
-abbrev pub where_passed : Passed → Shown → List Shown → List Shown
-where_passed Nothing shown later = later
-where_passed (Byte byte) shown later = shown ∷ later
+abbrev pub where_passed : Option ℕ → Shown → List Shown → List Shown
+where_passed None shown later = later
+where_passed (Some byte) shown later = shown ∷ later
 
 abbrev pub beside_marks : Codes → List ℕ → List Shown → List Shown
 beside_marks codes [] shown = []

@@ -9,6 +9,7 @@ use events::Outcome;
 use port::Locks;
 use state::Service;
 
+#[tactic(auto, unfolding(events::specs::Commands::led_value))]
 fn led_value(locks: Locks) -> u8
     ensures { result ≡ led_value locks }
 {
@@ -37,59 +38,68 @@ fn answer_for(answer: line::Answer, taken: Answer) -> Answer
     }
 }
 
+#[tactic(auto, unfolding(events::specs::Commands::on_line))]
 fn apply(service: Service, outcome: line::Outcome, taken: Answer) -> Outcome
     ensures { result ≡ on_line service outcome taken }
 {
-    let line = outcome.line;
-    let answer = outcome.answer;
-    let shown = answer_for(answer, taken);
-    let next = state::with_line(service, line);
     Outcome {
-        service: next,
-        answer: shown,
+        service: state::with_line(service, outcome.line),
+        answer: answer_for(outcome.answer, taken),
         sent: outcome.sent,
     }
 }
 
 // A poll for a byte to send.
+#[tactic(auto, unfolding(events::specs::Commands::poll_of))]
 pub fn poll(service: Service) -> Outcome
     ensures { result ≡ poll_of service }
 {
-    let line = service.line;
     let led = led_value(service.shared.locks);
-    apply(service, line_polling::poll(line, led), Answer::Taken)
+    apply(
+        service,
+        line_polling::poll(service.line, led),
+        Answer::Taken,
+    )
 }
 
 // The reply FA.
+#[tactic(auto, unfolding(events::specs::Commands::acknowledge_of))]
 pub fn acknowledge(service: Service) -> Outcome
     ensures { result ≡ acknowledge_of service }
 {
-    let line = service.line;
-    apply(service, line_replies::acknowledge(line), Answer::Taken)
+    apply(
+        service,
+        line_replies::acknowledge(service.line),
+        Answer::Taken,
+    )
 }
 
 // The reply FE.
+#[tactic(auto, unfolding(events::specs::Commands::resend_of))]
 pub fn resend(service: Service) -> Outcome
     ensures { result ≡ resend_of service }
 {
-    let line = service.line;
-    apply(service, line_replies::resend(line), Answer::Taken)
+    apply(service, line_replies::resend(service.line), Answer::Taken)
 }
 
 // A reply timed out.
+#[tactic(auto, unfolding(events::specs::Commands::time_out_of))]
 pub fn time_out(service: Service) -> Outcome
     ensures { result ≡ time_out_of service }
 {
-    let line = service.line;
-    apply(service, line_replies::time_out(line), Answer::Done)
+    apply(service, line_replies::time_out(service.line), Answer::Done)
 }
 
 // The line is restarted, and the controller made new; the command that is dropped shows no count.
+#[tactic(auto, unfolding(events::specs::Commands::restart_of))]
 pub fn restart(service: Service) -> Outcome
     ensures { result ≡ restart_of service }
 {
-    let restarted = state::with_line(service, line::new());
-    let renewed = state::with_controller(restarted, controller::new());
+    let renewed = Service {
+        line: line::new(),
+        controller: controller::new(),
+        ..service
+    };
     Outcome {
         service: renewed,
         answer: Answer::Done,

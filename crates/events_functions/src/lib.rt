@@ -2,90 +2,101 @@
 #![tactic(auto)]
 
 ghost use Rattle.std.specs.Prelude.{◌≡◌};
+ghost use Rattle.word.specs.declared.Word.{Word};
 ghost use Rattle.word.specs.OldWord.{old_word_of};
 ghost use Rattle.line.specs.State.{wait_rate_of};
 ghost use Rattle.answers.specs.declared.Answer.TheVariants.{Done, Refused};
+ghost use Rattle.state.specs.declared.Service.{Service};
 ghost use Rattle.state.specs.State.{with_line};
 ghost use Rattle.events.specs.Outcomes.{answered_of};
 ghost use Rattle.events.specs.Functions.{as_stored, oldest_answer, for_old_program, take_of, look_of, status_of, set_rate_of, store_of, call_of};
 
 use answers::{Answer, Refusal};
 use events::Outcome;
-use queue::Oldest;
 use state::Service;
 use state_flags::status::status_high;
-use word::Word;
+use word::{Ascii, ScanCode, Word};
 
-// What 10 and 11 answer.
-fn stored_answer(oldest: Oldest) -> Answer
-    ensures { result ≡ oldest_answer as_stored oldest }
+// How a program knows words: which it may see, and what it is told of one.
+trait Program {
+    ghost seen: { Service → Service };
+
+    ghost returned: { Word → Word };
+
+    fn seen(service: Service) -> Service
+        ensures { result ≡ seen service };
+
+    fn returned(word: Word) -> Word
+        ensures { result ≡ returned word };
+}
+
+// A program that knows every word that is stored. It calls 10 and 11.
+struct Current;
+
+impl Program for Current {
+    ghost seen = { λ service. service };
+
+    ghost returned = { as_stored };
+
+    fn seen(service: Service) -> Service {
+        service
+    }
+
+    fn returned(word: Word) -> Word {
+        word
+    }
+}
+
+// A program from before grey keys had words of their own. It calls 00 and 01.
+struct Old;
+
+impl Program for Old {
+    ghost seen = { for_old_program };
+
+    ghost returned = { old_word_of };
+
+    #[tactic(auto, unfolding(events::specs::Functions::for_old_program))]
+    fn seen(service: Service) -> Service {
+        let mut seen = service;
+        seen.queue.pass_enhanced();
+        seen
+    }
+
+    fn returned(word: Word) -> Word {
+        word_conversion::as_old(word)
+    }
+}
+
+fn answer<P: Program>(oldest: Option<Word>) -> Answer
+    ensures { result ≡ oldest_answer P.returned oldest }
 {
     match oldest {
-        Oldest::None => Answer::NoWord,
-        Oldest::Is(word) => Answer::Returned(word),
+        None => Answer::NoWord,
+        Some(word) => Answer::Returned(P::returned(word)),
     }
 }
 
-// What 00 and 01 answer.
-fn old_answer(oldest: Oldest) -> Answer
-    ensures { result ≡ oldest_answer old_word_of oldest }
+// 00 and 10.
+#[tactic(auto, unfolding(events::specs::Functions::take_of))]
+fn take<P: Program>(service: Service) -> Outcome
+    ensures { result ≡ take_of P.returned (P.seen service) }
 {
-    match oldest {
-        Oldest::None => Answer::NoWord,
-        Oldest::Is(word) => Answer::Returned(word_conversion::as_old(word)),
-    }
+    let mut seen = P::seen(service);
+    let oldest = seen.queue.take();
+    events_outcomes::answered(seen, answer::<P>(oldest))
 }
 
-// What 00 and 01 look at: mostly the service as it is, which then is not made anew.
-fn for_old_program(service: Service) -> Service
-    ensures { result ≡ for_old_program service }
+// 01 and 11.
+#[tactic(auto, unfolding(events::specs::Functions::look_of))]
+fn look<P: Program>(service: Service) -> Outcome
+    ensures { result ≡ look_of P.returned (P.seen service) }
 {
-    let queue = service.queue;
-    if queue::starts_enhanced(queue) {
-        return state::with_queue(service, queue::past_enhanced(queue));
-    }
-    service
-}
-
-// 10.
-fn take(service: Service) -> Outcome
-    ensures { result ≡ take_of as_stored service }
-{
-    let queue = service.queue;
-    let taken = queue::take(queue);
-    let left = taken.queue;
-    let oldest = taken.oldest;
-    events_outcomes::answered(state::with_queue(service, left), stored_answer(oldest))
-}
-
-// 11.
-fn look(service: Service) -> Outcome
-    ensures { result ≡ look_of as_stored service }
-{
-    let queue = service.queue;
-    events_outcomes::answered(service, stored_answer(queue::first(queue)))
-}
-
-// 00.
-fn take_as_old(service: Service) -> Outcome
-    ensures { result ≡ take_of old_word_of (for_old_program service) }
-{
-    let seen = for_old_program(service);
-    let taken = queue::take(seen.queue);
-    let left = taken.queue;
-    let oldest = taken.oldest;
-    events_outcomes::answered(state::with_queue(seen, left), old_answer(oldest))
-}
-
-// 01.
-fn look_as_old(service: Service) -> Outcome
-    ensures { result ≡ look_of old_word_of (for_old_program service) }
-{
-    let seen = for_old_program(service);
-    events_outcomes::answered(seen, old_answer(queue::first(seen.queue)))
+    let seen = P::seen(service);
+    events_outcomes::answered(seen, answer::<P>(seen.queue.first()))
 }
 
 // 02 and 12: a status of two bytes.
+#[tactic(auto, unfolding(events::specs::Functions::status_of))]
 fn status(service: Service, high: u8, low: u8) -> Outcome
     ensures { result ≡ status_of service high low }
 {
@@ -135,32 +146,15 @@ fn store(service: Service, word: Word) -> Outcome
 pub fn call(service: Service, function: u8, a: u8, b: u8) -> Outcome
     ensures { result ≡ call_of service function a b }
 {
-    if function == 0x00 {
-        return take_as_old(service);
+    match function {
+        0x00 => take::<Old>(service),
+        0x01 => look::<Old>(service),
+        0x10 => take::<Current>(service),
+        0x11 => look::<Current>(service),
+        0x02 => status(service, 0, state_flags::byte17(service)),
+        0x12 => status(service, status_high(service), state_flags::byte17(service)),
+        0x03 => set_rate(service, a, b),
+        0x05 => store(service, Word::new(ScanCode::from(a), Ascii::from(b))),
+        _ => refused(service, Refusal::Function),
     }
-    if function == 0x01 {
-        return look_as_old(service);
-    }
-    if function == 0x10 {
-        return take(service);
-    }
-    if function == 0x11 {
-        return look(service);
-    }
-    if function == 0x02 {
-        return status(service, 0, state_flags::byte17(service));
-    }
-    if function == 0x12 {
-        return status(service, status_high(service), state_flags::byte17(service));
-    }
-    if function == 0x03 {
-        return set_rate(service, a, b);
-    }
-    if function == 0x05 {
-        return store(
-            service,
-            word::joined(word::scan_code(a), word::ascii_byte(b)),
-        );
-    }
-    refused(service, Refusal::Function)
 }

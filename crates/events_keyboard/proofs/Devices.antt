@@ -1,12 +1,11 @@
 -- A byte read by the tests of the code is the byte read as its device's definition has it.
 -- Assumes nothing.
+use Rattle.std.specs.Prelude.{Option, None, Some}
 use Prim.Native.Nat.{ℕ}
 use mathlib.Core.Path.{◌≡◌, refl}
 use mathlib.Core.Bool.{true, false}
 use lib.Dec.{eqb}
 use Rattle.bits.specs.Choice.{when◌then◌else◌}
-use Rattle.translation.specs.declared.Passed.{Passed}
-use Rattle.translation.specs.declared.Passed.TheVariants.{Nothing, Byte}
 use Rattle.translation.specs.Translation.{translated_of}
 use Rattle.state.specs.declared.Device.{Device}
 use Rattle.state.specs.declared.Device.TheVariants.{Keyboard, Scanner}
@@ -30,9 +29,9 @@ unfolding read_of scan_of when◌then◌else◌
 key_read Keyboard service byte fa fe = simp (fa, fe)
 key_read Scanner service byte fa fe = simp (fa, fe)
 
-keyboard_passed : (service : Service) (passed : Passed) → on_passed_from Keyboard service passed ≡ on_passed service passed
-keyboard_passed service Nothing = refl
-keyboard_passed service (Byte byte) = refl
+keyboard_passed : (service : Service) (passed : Option ℕ) → on_passed_from Keyboard service passed ≡ on_passed service passed
+keyboard_passed service None = refl
+keyboard_passed service (Some byte) = refl
 
 pub byte_read : (device : Device) (service : Service) (byte : ℕ)
     → let translated = translated_from device service.codes byte in

@@ -8,7 +8,7 @@ ghost use Rattle.events_keyboard.specs.Devices.{translated_from, acknowledged_fr
 use answers::Answer;
 use events::Outcome;
 use state::{Device, Service};
-use translation::{Codes, Passed, Translated};
+use translation::{Codes, Translated};
 
 // A scanner sends set 1.
 fn translate(device: Device, codes: Codes, byte: u8) -> Translated
@@ -18,7 +18,7 @@ fn translate(device: Device, codes: Codes, byte: u8) -> Translated
         Device::Keyboard => translation::translate(codes, byte),
         Device::Scanner => Translated {
             codes,
-            passed: Passed::Byte(byte),
+            passed: Some(byte),
         },
     }
 }
@@ -60,13 +60,10 @@ fn read(device: Device, service: Service, byte: u8) -> Outcome
 pub fn byte(device: Device, service: Service, byte: u8) -> Outcome
     ensures { result ≡ byte_from device service byte }
 {
-    let codes = service.codes;
-    let translated = translate(device, codes, byte);
-    let later = translated.codes;
-    let passed = translated.passed;
-    let next = state::with_codes(service, later);
-    match passed {
-        Passed::Nothing => events_outcomes::answered(next, Answer::Nothing),
-        Passed::Byte(byte) => read(device, next, byte),
+    let translated = translate(device, service.codes, byte);
+    let next = state::with_codes(service, translated.codes);
+    match translated.passed {
+        None => events_outcomes::answered(next, Answer::Nothing),
+        Some(byte) => read(device, next, byte),
     }
 }

@@ -6,19 +6,19 @@ ghost use Rattle.events.specs.Outcomes.{answered_of, offered_of};
 
 use answers::Answer;
 use events::Outcome;
+use queue::Full;
 use state::Service;
 use word::Word;
 
 // An event that leaves the line's command alone: its count goes on being shown.
+#[tactic(auto, unfolding(events::specs::Outcomes::answered_of))]
 pub fn answered(service: Service, answer: Answer) -> Outcome
     ensures { result ≡ answered_of service answer }
 {
-    let line = service.line;
-    let sent = line::sent(line);
     Outcome {
         service,
         answer,
-        sent,
+        sent: line::sent(service.line),
     }
 }
 
@@ -26,12 +26,9 @@ pub fn answered(service: Service, answer: Answer) -> Outcome
 pub fn offered(service: Service, word: Word, kept: Answer, full: Answer) -> Outcome
     ensures { result ≡ offered_of service word kept full }
 {
-    let queue = service.queue;
-    let after = queue::put(queue, word);
-    let left = after.queue;
-    let next = state::with_queue(service, left);
-    if after.stored {
-        return answered(next, kept);
+    let mut next = service;
+    match next.queue.put(word) {
+        Ok(()) => answered(next, kept),
+        Err(Full) => answered(next, full),
     }
-    answered(next, full)
 }

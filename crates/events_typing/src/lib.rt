@@ -9,7 +9,7 @@ use answers::Answer;
 use events::Outcome;
 use port::{Effect, Shared};
 use state::{Device, Ports, Service};
-use word::Word;
+use word::{Ascii, ScanCode, Word};
 
 fn with_ports(service: Service, ports: Ports, shared: Shared) -> Service
     ensures { result ≡ with_ports service ports shared }
@@ -28,16 +28,18 @@ fn put(service: Service, word: Word) -> Outcome
 }
 
 // Step 8: the queue holds the word 0000 alone.
+#[tactic(auto, unfolding(events::specs::Keyboard::broken_of))]
 fn broken(service: Service) -> Outcome
     ensures { result ≡ broken_of service }
 {
-    let word = word::joined(word::scan_code(0), word::ascii_byte(0));
-    let after = queue::put(queue::empty(), word);
-    let left = after.queue;
-    events_outcomes::answered(state::with_queue(service, left), Answer::Break)
+    let mut next = service;
+    next.queue = queue::empty();
+    let _ = next.queue.put(Word::new(ScanCode::from(0), Ascii::from(0)));
+    events_outcomes::answered(next, Answer::Break)
 }
 
 // What the port's effect does to the queue and answers.
+#[tactic(auto, unfolding(events::specs::Keyboard::on_effect))]
 fn apply(service: Service, effect: Effect) -> Outcome
     ensures { result ≡ on_effect service effect }
 {
@@ -51,6 +53,7 @@ fn apply(service: Service, effect: Effect) -> Outcome
 }
 
 // The one decoder, called with the port of either device.
+#[tactic(auto, unfolding(events::specs::Keyboard::typed_of))]
 pub fn typed(device: Device, service: Service, byte: u8) -> Outcome
     ensures { result ≡ typed_of device service byte }
 {

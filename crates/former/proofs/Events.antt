@@ -1,5 +1,6 @@
 -- Every event: the former service is the present one with the words that an old program knows, and stays it.
 -- Assumes nothing.
+use Rattle.std.specs.Prelude.{Option, None, Some}
 use Prim.Native.Nat.{ℕ}
 use mathlib.Core.Path.{◌≡◌, refl, ap, sym, ◌∙◌, subst}
 use mathlib.Core.Bool.{true, false}
@@ -15,15 +16,11 @@ use Rattle.port.specs.declared.Effect.TheVariants as effect
 use Rattle.port.specs.Prefix.{reading_of}
 use Rattle.port.specs.KeyByte.{key_byte_of}
 use Rattle.queue.specs.declared.Queue.{Queue}
-use Rattle.queue.specs.declared.Oldest.{Oldest}
-use Rattle.queue.specs.declared.Oldest.TheVariants.{None, Is}
 use Rattle.queue.specs.Queue as queue
 use Rattle.line.specs.declared.Answer.{Answer as LineAnswer}
 use Rattle.line.specs.declared.Answer.TheVariants as line-answer
 use Rattle.line.specs.declared.Outcome.{Outcome as LineOutcome}
 use Rattle.line.specs.State.{sent_of}
-use Rattle.translation.specs.declared.Passed.{Passed}
-use Rattle.translation.specs.declared.Passed.TheVariants as passed
 use Rattle.translation.specs.Translation.{translated_of}
 use Rattle.state.specs.declared.Device.{Device}
 use Rattle.state.specs.declared.Device.TheVariants.{Keyboard, Scanner}
@@ -137,9 +134,9 @@ unfolding read_of former_read_of
 read_became service byte s =
     both Became _ (acknowledge_became service s) (both Became _ (resend_became service s) (typed_became Keyboard service byte s))
 
-passed_became : (service : Service) (p : Passed) → Settled service.queue → Became (on_passed service p) (former_on_passed (former_service service) p)
-passed_became service passed.Nothing s = answered_became service _ refl s
-passed_became service (passed.Byte byte) s = read_became service byte s
+passed_became : (service : Service) (p : Option ℕ) → Settled service.queue → Became (on_passed service p) (former_on_passed (former_service service) p)
+passed_became service None s = answered_became service _ refl s
+passed_became service (Some byte) s = read_became service byte s
 
 key_became : (service : Service) (byte : ℕ) → Settled service.queue → Became (key_of service byte) (former_key_of (former_service service) byte)
 unfolding key_of former_key_of
@@ -152,13 +149,13 @@ scan_became service byte s = both Became _ (answered_became service _ refl s) (t
 -- ---- functions
 
 -- what was stored was what an old program is told now, and what 10 and 11 tell was that
-old_answer : (oldest : Oldest) → oldest_answer as_stored (former_oldest oldest) ≡ oldest_answer old_word_of oldest
+old_answer : (oldest : Option Word) → oldest_answer as_stored (former_oldest oldest) ≡ oldest_answer old_word_of oldest
 old_answer None = refl
-old_answer (Is word) = refl
+old_answer (Some word) = refl
 
-stored_answer : (oldest : Oldest) → oldest_answer old_word_of oldest ≡ as_old_answer (oldest_answer as_stored oldest)
+stored_answer : (oldest : Option Word) → oldest_answer old_word_of oldest ≡ as_old_answer (oldest_answer as_stored oldest)
 stored_answer None = refl
-stored_answer (Is word) = refl
+stored_answer (Some word) = refl
 
 -- a take and a look by former programs
 taken : (service : Service) → Settled service.queue → Read (take_of old_word_of service) (take_of as_stored (former_service service))

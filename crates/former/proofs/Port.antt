@@ -1,5 +1,6 @@
 -- A byte at a port does what it did, and puts a word for which an old program knows the former one.
 -- Assumes nothing.
+use Rattle.std.specs.Prelude.{Option, None, Some, ℕ}
 use mathlib.Core.Path.{◌≡◌, refl, ap, sym, subst}
 use Rattle.bits.proofs.Choice.{either, both}
 use Rattle.word.specs.declared.Word.{Word}
@@ -11,8 +12,6 @@ use Rattle.rows.specs.declared.Entry.TheVariants.{NoRow, NoWord, Has}
 use Rattle.rows.specs.Column.{column_of}
 use Rattle.rows.specs.Lookup.{entry_at, lookup_of}
 use Rattle.port.specs.declared.Code.{Code}
-use Rattle.port.specs.declared.Digit.{Digit}
-use Rattle.port.specs.declared.Digit.TheVariants.{NoDigit, Is}
 use Rattle.port.specs.declared.Effect.{Effect}
 use Rattle.port.specs.declared.Effect.TheVariants.{Nothing, Put, Break, RestartAsked, Overrun}
 use Rattle.port.specs.declared.Port.{Port}
@@ -80,12 +79,12 @@ entry_decoded port shared code NoRow k = unchanged port shared Nothing refl tt
 entry_decoded port shared code NoWord k = unchanged port shared Nothing refl tt
 entry_decoded port shared code (Has word) k = word_decoded port shared code word k
 
-counted_decoded : (digit : Digit) (port : Port) (shared : Shared) (code : Code) (entry : Entry) → KeptEntry entry
+counted_decoded : (digit : Option ℕ) (port : Port) (shared : Shared) (code : Code) (entry : Entry) → KeptEntry entry
     → FormerDecoded (counted digit port shared code entry) (counted digit port shared code (former_entry entry))
 unfolding counted typed
-counted_decoded NoDigit port shared code entry k =
+counted_decoded None port shared code entry k =
     both FormerDecoded _ (unchanged _ shared Break refl tt) (entry_decoded (with_sum port 0) shared code entry k)
-counted_decoded (Is digit) port shared code entry k = unchanged _ shared Nothing refl tt
+counted_decoded (Some digit) port shared code entry k = unchanged _ shared Nothing refl tt
 
 made_decoded : (port : Port) (shared : Shared) (code : Code) (entry : Entry) → KeptEntry entry
     → FormerDecoded (made_of port shared code entry) (made_of port shared code (former_entry entry))

@@ -1,5 +1,6 @@
 -- A queue whose words are all replaced by those that an old program knows: each call of the queue gives what it gave, so replaced.
 -- Assumes nothing.
+use Rattle.std.specs.Prelude.{Option, None, Some}
 use Prim.Native.Nat.{ℕ, zero, suc, ◌%◌}
 use mathlib.Core.Path.{◌≡◌, refl, ap, sym, ◌∙◌}
 use mathlib.Core.Bool.{Bool, false}
@@ -12,9 +13,7 @@ use Rattle.word.specs.declared.Word.{Word}
 use Rattle.word.specs.Word.{is_enhanced}
 use Rattle.word.specs.OldWord.{old_word_of}
 use Rattle.queue.specs.declared.Queue.{Queue}
-use Rattle.queue.specs.declared.Oldest.{Oldest}
-use Rattle.queue.specs.declared.Oldest.TheVariants.{None, Is}
-use Rattle.queue.specs.declared.AfterPut.{AfterPut}
+use Rattle.queue.specs.Queue.{AfterPut}
 use Rattle.queue.specs.Queue.{capacity, blank, empty_queue, place_of, held_in, oldest_of, put_of, rest_of}
 use Rattle.queue.specs.Enhanced.{oldest_enhanced, starts_enhanced, past_at_most, past_enhanced}
 use Rattle.queue.specs.Words.{ring, words_of}
@@ -23,9 +22,9 @@ use Rattle.queue.proofs.Past.{past_keeps}
 abbrev pub former_queue : Queue → Queue
 former_queue queue = record { words = map old_word_of queue.words; head = queue.head; count = queue.count }
 
-abbrev pub former_oldest : Oldest → Oldest
+abbrev pub former_oldest : Option Word → Option Word
 former_oldest None = None
-former_oldest (Is word) = Is (old_word_of word)
+former_oldest (Some word) = Some (old_word_of word)
 
 -- ---- places of the array
 
@@ -58,7 +57,7 @@ former_empty = refl
 pub former_oldest_lem : (queue : Queue) → oldest_of (former_queue queue) ≡ former_oldest (oldest_of queue)
 unfolding oldest_of
 former_oldest_lem queue =
-    both (λ (former now : Oldest). former ≡ former_oldest now) (eqb (held_in queue) 0) refl (ap Is (at_place queue.words (place_of queue.head 0)))
+    both (λ (former now : Option Word). former ≡ former_oldest now) (eqb (held_in queue) 0) refl (ap Some (at_place queue.words (place_of queue.head 0)))
 
 pub former_rest : (queue : Queue) → rest_of (former_queue queue) ≡ former_queue (rest_of queue)
 unfolding rest_of
@@ -114,7 +113,7 @@ enhanced_at queue place s =
 starts_alike : (queue : Queue) → Settled queue → starts_enhanced (former_queue queue) ≡ starts_enhanced queue
 unfolding oldest_of
 starts_alike queue s =
-    both (λ (former now : Oldest). oldest_enhanced former ≡ oldest_enhanced now) (eqb (held_in queue) 0) refl (enhanced_at queue (place_of queue.head 0) s)
+    both (λ (former now : Option Word). oldest_enhanced former ≡ oldest_enhanced now) (eqb (held_in queue) 0) refl (enhanced_at queue (place_of queue.head 0) s)
 
 past_at_most_lem : (n : ℕ) (queue : Queue) → Settled queue → past_at_most n (former_queue queue) ≡ former_queue (past_at_most n queue)
 past_at_most_lem zero queue s = refl

@@ -1,6 +1,6 @@
 -- The service as it was before document 02, W-205: grey keys put the words of the keys that they double, and 00 and 01 return what is stored.
 -- Assumes nothing.
-use Rattle.std.specs.Prelude.{ℕ, Bool, true, false, ◌||◌, List, [], ◌∷◌, ◌++◌, map, eqb}
+use Rattle.std.specs.Prelude.{ℕ, Bool, true, false, ◌||◌, List, [], ◌∷◌, ◌++◌, map, eqb, Option, None, Some}
 use Rattle.bits.specs.Choice.{when◌then◌else◌}
 use Rattle.word.specs.declared.ScanCode.{ScanCode}
 use Rattle.word.specs.Word.{code_of}
@@ -22,8 +22,6 @@ use Rattle.port.specs.State.{with_prefix}
 use Rattle.port.specs.Prefix.{reading_of}
 use Rattle.port.specs.Makes.{selector_of}
 use Rattle.port.specs.KeyByte.{on_entry, on_reading}
-use Rattle.translation.specs.declared.Passed.{Passed}
-use Rattle.translation.specs.declared.Passed.TheVariants as passed
 use Rattle.translation.specs.Translation.{translated_of}
 use Rattle.controller.specs.declared.PortEvent.{PortEvent}
 use Rattle.controller.specs.declared.Response.{Response}
@@ -90,9 +88,9 @@ former_read_of service byte =
     else when eqb byte 0xFE then resend_of service
     else former_typed_of Keyboard service byte
 
-abbrev pub former_on_passed : Service → Passed → Outcome
-former_on_passed service passed.Nothing = on_passed service passed.Nothing
-former_on_passed service (passed.Byte byte) = former_read_of service byte
+abbrev pub former_on_passed : Service → Option ℕ → Outcome
+former_on_passed service None = on_passed service None
+former_on_passed service (Some byte) = former_read_of service byte
 
 unfoldable pub former_key_of : Service → ℕ → Outcome
 former_key_of service byte =

@@ -1,5 +1,6 @@
 -- The reader as one test: a number is accepted exactly where it has none of the faults.
 -- Assumes nothing.
+use Rattle.std.specs.Prelude.{Result, Ok, Err}
 use mathlib.Core.Path.{◌≡◌}
 use Prim.Native.Nat.{ℕ, ◌%◌, ◌<◌}
 use native.Mathlib.Omega.{arith}
@@ -10,8 +11,6 @@ use Rattle.bits.specs.Choice.{when◌then◌else◌}
 use Rattle.bits.proofs.Choice.{by_test}
 use Rattle.bits.proofs.Tests.{neither}
 use Rattle.frame.specs.declared.Fault.{Fault}
-use Rattle.frame.specs.declared.Reading.{Reading}
-use Rattle.frame.specs.declared.Reading.TheVariants.{Byte, Refused}
 use Rattle.frame.specs.Frame.{start_of, data_of, data_and_parity_of, stop_of, read_frame}
 
 pub record Faultless (frame byte : ℕ) : Type 0 where
@@ -21,18 +20,18 @@ pub record Faultless (frame byte : ℕ) : Type 0 where
   pub stop : stop_of frame ≡ 1
   pub carries : data_of frame ≡ byte
 
-pub faultless_read : (frame byte : ℕ) → Faultless frame byte → read_frame frame ≡ Byte byte
+pub faultless_read : (frame byte : ℕ) → Faultless frame byte → read_frame frame ≡ Ok byte
 unfolding read_frame when◌then◌else◌
 faultless_read frame byte h =
     simp (lt-leb _ _ h.below, eq-eqb _ _ h.start, eq-eqb _ _ h.parity, eq-eqb _ _ h.stop, h.carries)
 
-refused_is_no_byte : (fault : Fault) (byte : ℕ) → Refused fault ≡ Byte byte → ⊥
+refused_is_no_byte : (fault : Fault) (byte : ℕ) → Err fault ≡ Ok byte → ⊥
 refused_is_no_byte fault byte e = let z : ◌≡◌ {A = ℕ} 0 1 = cc in omega arith
 
-pub read_faultless : (frame byte : ℕ) → read_frame frame ≡ Byte byte → Faultless frame byte
+pub read_faultless : (frame byte : ℕ) → read_frame frame ≡ Ok byte → Faultless frame byte
 unfolding read_frame
 read_faultless frame byte =
-    let Carries : Reading → Type 0 = λ reading. reading ≡ Byte byte → Faultless frame byte in
+    let Carries : Result ℕ Fault → Type 0 = λ reading. reading ≡ Ok byte → Faultless frame byte in
     by_test Carries _ _ _ (λ _ e. absurd (refused_is_no_byte _ byte e)) (λ start.
     by_test Carries _ _ _ (λ _ e. absurd (refused_is_no_byte _ byte e)) (λ parity.
     by_test Carries _ _ _ (λ _ e. absurd (refused_is_no_byte _ byte e)) (λ stop e.

@@ -1,5 +1,6 @@
 -- The law that Laws.antt of specs/ states. A frame is its data, a parity bit that the data decide, and two bits that are fixed.
 -- Assumes nothing.
+use Rattle.std.specs.Prelude.{Err}
 use mathlib.Core.Path.{◌≡◌, refl, ap, ◌∙◌}
 use Prim.Native.Nat.{ℕ, zero, suc, ◌+◌, ◌-◌, ◌*◌, ◌/◌, ◌%◌, ◌≤◌, ◌<◌}
 use native.Mathlib.Nat.{le_of_suc-le-suc, not-suc-le-zero}
@@ -10,7 +11,6 @@ use lib.Count.{ones, ones_in, ones_cat}
 use borrow.Author.Tests.{le-leb}
 use Rattle.bits.specs.Choice.{when◌then◌else◌}
 use Rattle.frame.specs.declared.Fault.TheVariants.{Start}
-use Rattle.frame.specs.declared.Reading.TheVariants.{Refused}
 use Rattle.frame.specs.Frame.{bits_at, data_and_parity_of, parity_for, frame_of, read_frame}
 use Rattle.frame.specs.Laws.{accepted_below, OneFrameEach}
 use Rattle.frame.proofs.Accepted.{Faultless, faultless_read, read_faultless}
@@ -58,7 +58,7 @@ of_eleven_bits : accepted_below 2048 ≡ 256
 unfolding accepted_below read_frame when◌then◌else◌ ones ones_in
 of_eleven_bits = refl
 
-too_large : (frame : ℕ) → 2048 ≤ frame → read_frame frame ≡ Refused Start
+too_large : (frame : ℕ) → 2048 ≤ frame → read_frame frame ≡ Err Start
 unfolding read_frame when◌then◌else◌
 too_large frame h = simp (le-leb _ _ h)
 

@@ -1,12 +1,10 @@
 -- Document 02, W-202: frames, numbers of eleven bits of which the lowest is the first on the wire.
 -- Assumes nothing.
-use Rattle.std.specs.Prelude.{ℕ, ◌+◌, ◌-◌, ◌*◌, ◌/◌, ◌%◌, ◌^◌, Bool, ◌||◌, not, leb, eqb}
+use Rattle.std.specs.Prelude.{ℕ, ◌+◌, ◌-◌, ◌*◌, ◌/◌, ◌%◌, ◌^◌, Bool, ◌||◌, not, leb, eqb, Result, Ok, Err}
 use Rattle.std.specs.Int.Count.{ones}
 use Rattle.bits.specs.Choice.{when◌then◌else◌}
 use Rattle.frame.specs.declared.Fault.{Fault}
 use Rattle.frame.specs.declared.Fault.TheVariants.{Start, Parity, Stop}
-use Rattle.frame.specs.declared.Reading.{Reading}
-use Rattle.frame.specs.declared.Reading.TheVariants.{Byte, Refused}
 
 -- so many bits of a number, from a place on
 abbrev pub bits_at : ℕ → ℕ → ℕ → ℕ
@@ -38,12 +36,12 @@ unfoldable pub frame_of : ℕ → ℕ
 frame_of byte = 0 * 2 ^ 0 + byte * 2 ^ 1 + parity_for byte * 2 ^ 9 + 1 * 2 ^ 10
 
 -- the reader: the byte, or the first fault
-unfoldable pub read_frame : ℕ → Reading
+unfoldable pub read_frame : ℕ → Result ℕ Fault
 read_frame frame =
-    when leb 2048 frame || not (eqb (start_of frame) 0) then Refused Start
-    else when not (is_odd (ones (data_and_parity_of frame))) then Refused Parity
-    else when not (eqb (stop_of frame) 1) then Refused Stop
-    else Byte (data_of frame)
+    when leb 2048 frame || not (eqb (start_of frame) 0) then Err Start
+    else when not (is_odd (ones (data_and_parity_of frame))) then Err Parity
+    else when not (eqb (stop_of frame) 1) then Err Stop
+    else Ok (data_of frame)
 
 -- 11 too large or the start bit not 0, 12 parity, 13 the stop bit not 1
 abbrev pub fault_number : Fault → ℕ

@@ -19,13 +19,6 @@ pub enum Fault {
     Stop,
 }
 
-// What a frame carries.
-#[derive(Clone, Copy)]
-pub enum Reading {
-    Byte(u8),
-    Refused(Fault),
-}
-
 // The frame of a byte.
 pub fn write(byte: u8) -> u16
     ensures { result ≡ frame_of byte }
@@ -38,17 +31,17 @@ pub fn write(byte: u8) -> u16
 }
 
 // The byte of a frame, or the first fault in the order of their numbers.
-pub fn read(frame: u16) -> Reading
+pub fn read(frame: u16) -> Result<u8, Fault>
     ensures { result ≡ read_frame frame }
 {
     if (2048 <= frame) | (frame & 1 != 0) {
-        return Reading::Refused(Fault::Start);
+        return Err(Fault::Start);
     }
     if u16::count_ones(frame & DATA_AND_PARITY) & 1 != 1 {
-        return Reading::Refused(Fault::Parity);
+        return Err(Fault::Parity);
     }
     if (frame >> 10) & 1 != 1 {
-        return Reading::Refused(Fault::Stop);
+        return Err(Fault::Stop);
     }
-    Reading::Byte(((frame >> 1) & 255) as u8)
+    Ok(((frame >> 1) & 255) as u8)
 }

@@ -1,5 +1,6 @@
 -- An image is read as a service in range, and a service in range comes back from its image, part by part.
 -- Assumes nothing.
+use Rattle.std.specs.Prelude.{Option, None, Some}
 use Prim.Native.Nat.{ℕ, min, ◌+◌, ◌-◌, ◌*◌, ◌/◌, ◌%◌, ◌<◌, ◌≤◌}
 use native.Mathlib.Nat.{div-div-eq-div-mul, mod-eq_of_lt}
 use native.Mathlib.Omega.{arith}
@@ -29,8 +30,6 @@ use Rattle.line.specs.declared.Kind.TheVariants.{Led, Rate}
 use Rattle.line.specs.declared.Command.{Command}
 use Rattle.line.specs.declared.Phase.{Phase}
 use Rattle.line.specs.declared.Phase.TheVariants.{Idle, Awaiting, Ready}
-use Rattle.line.specs.declared.Setting.{Setting}
-use Rattle.line.specs.declared.Setting.TheVariants.{None, Value}
 use Rattle.line.specs.declared.Line.{Line}
 use Rattle.line.specs.State.{led_runs_of, led_runs_in, new_line}
 use Rattle.line.specs.Byte97.{byte97_of}
@@ -225,10 +224,10 @@ phase_back (Ready command) h = ap Ready (command_back command h 2)
 
 -- a setting with fewer than so many values
 module _ (values : ℕ) where
-  setting_back : (setting : Setting) → SettingBelow values setting → setting_at (setting_image setting).known ((setting_image setting).value % values) ≡ setting
+  setting_back : (setting : Option ℕ) → SettingBelow values setting → setting_at (setting_image setting).known ((setting_image setting).value % values) ≡ setting
   unfolding setting_at when◌then◌else◌
   setting_back None h = refl
-  setting_back (Value value) h = ap Value (mod-eq_of_lt h)
+  setting_back (Some value) h = ap Some (mod-eq_of_lt h)
 
   setting_read : (known value : ℕ) → value < values → SettingBelow values (setting_at known value)
   unfolding setting_at

@@ -1,6 +1,6 @@
 -- Lines as numbers, and what any such numbers mean; the marks are in byte 97.
 -- Assumes nothing.
-use Rattle.std.specs.Prelude.{ℕ, min, ◌%◌, Bool, true, false, not, eqb}
+use Rattle.std.specs.Prelude.{ℕ, min, ◌%◌, Bool, true, false, not, eqb, Option, None, Some}
 use Rattle.bits.specs.Choice.{when◌then◌else◌}
 use Rattle.bits.specs.Bits.{bit4, bit5, bit7}
 use Rattle.line.specs.declared.Kind.{Kind}
@@ -8,8 +8,6 @@ use Rattle.line.specs.declared.Kind.TheVariants.{Led, Rate}
 use Rattle.line.specs.declared.Command.{Command}
 use Rattle.line.specs.declared.Phase.{Phase}
 use Rattle.line.specs.declared.Phase.TheVariants.{Idle, Awaiting, Ready}
-use Rattle.line.specs.declared.Setting.{Setting}
-use Rattle.line.specs.declared.Setting.TheVariants.{None, Value}
 use Rattle.line.specs.declared.Marks.{Marks}
 use Rattle.line.specs.declared.Line.{Line}
 use Rattle.line.specs.Ranges.{led_values, rate_values}
@@ -32,12 +30,12 @@ kind_number Rate = 1
 unfoldable pub kind_at : ℕ → Kind
 kind_at number = when eqb number 0 then Led else Rate
 
-abbrev pub setting_image : Setting → SettingImage
+abbrev pub setting_image : Option ℕ → SettingImage
 setting_image None = record { known = 0; value = 0 }
-setting_image (Value value) = record { known = 1; value = value }
+setting_image (Some value) = record { known = 1; value = value }
 
-unfoldable pub setting_at : ℕ → ℕ → Setting
-setting_at known value = when eqb known 0 then None else Value value
+unfoldable pub setting_at : ℕ → ℕ → Option ℕ
+setting_at known value = when eqb known 0 then None else Some value
 
 abbrev pub command_image : ℕ → Command → CommandImage
 command_image phase command =

@@ -6,7 +6,7 @@
 // The flag bytes as the BIOS data area has them. Read from an image, they are the service's modifiers, held bits, locks, pause and marks; the
 // bits that follow from others (either Ctrl, either Alt, an open prefix, a LED command that runs) and those that have no meaning are not read.
 #[repr(C)]
-#[derive(Clone, Copy)]
+#[derive(Clone, Copy, Default)]
 pub struct FlagBytes {
     pub byte17: u8,
     pub byte18: u8,
@@ -16,7 +16,7 @@ pub struct FlagBytes {
 
 // A value that may be missing: then both numbers are 0.
 #[repr(C)]
-#[derive(Clone, Copy)]
+#[derive(Clone, Copy, Default)]
 pub struct SettingImage {
     pub known: u8,
     pub value: u8,
@@ -25,7 +25,7 @@ pub struct SettingImage {
 // `phase` is 0 for idle, 1 while a reply is awaited, 2 where a poll is due; any other number is read as idle. `kind` is 0 for a LED command, else a
 // rate command. An idle line has no command: `kind` is then the kind whose turn it is, and the four numbers behind it are 0.
 #[repr(C)]
-#[derive(Clone, Copy)]
+#[derive(Clone, Copy, Default)]
 pub struct CommandImage {
     pub phase: u8,
     pub kind: u8,
@@ -37,7 +37,7 @@ pub struct CommandImage {
 
 // The line but for its marks, which byte 97 has.
 #[repr(C)]
-#[derive(Clone, Copy)]
+#[derive(Clone, Copy, Default)]
 pub struct LineImage {
     pub rate: SettingImage,
     pub handled: SettingImage,
@@ -45,7 +45,7 @@ pub struct LineImage {
 }
 
 #[repr(C)]
-#[derive(Clone, Copy)]
+#[derive(Clone, Copy, Default)]
 pub struct WordImage {
     pub scan: u8,
     pub ascii: u8,
@@ -63,7 +63,7 @@ pub struct QueueImage {
 // byte 17 has the Shift keys. The last three are the held bits: of `locks` bit 0 is Scroll, 1 Num, 2 Caps; `insert` and `sysreq` are 0 or 1, and any
 // other number is read as 1.
 #[repr(C)]
-#[derive(Clone, Copy)]
+#[derive(Clone, Copy, Default)]
 pub struct PortImage {
     pub prefix: u8,
     pub sum: u8,

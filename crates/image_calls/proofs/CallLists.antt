@@ -1,5 +1,6 @@
 -- Images follow their services over lists of calls, so that demand 3 and the counts of sends hold of images.
 -- Assumes nothing.
+use Rattle.std.specs.Prelude.{Result, Ok, Err}
 use Prim.Native.Nat.{ℕ, ◌≤◌}
 use native.Mathlib.Omega.{arith}
 use mathlib.Core.Path.{◌≡◌, refl, ap, sym, ◌∙◌}
@@ -11,8 +12,6 @@ use Rattle.bits.proofs.Choice.{by_test, either}
 use Rattle.bits.proofs.Bytes.{byte_most}
 use Rattle.frame.specs.declared.Fault.{Fault}
 use Rattle.frame.specs.declared.Fault.TheVariants.{Start, Parity, Stop}
-use Rattle.frame.specs.declared.Reading.{Reading}
-use Rattle.frame.specs.declared.Reading.TheVariants as reading
 use Rattle.frame.specs.Frame.{read_frame, fault_number}
 use Rattle.translation.specs.declared.CodeSet.{CodeSet}
 use Rattle.controller.specs.declared.PortEvent.{PortEvent}
@@ -32,9 +31,8 @@ use Rattle.events.specs.Resynchronised.{set_in, standing_locks, remade}
 use Rattle.events.proofs.RefusedCalls.{refused_step_lem}
 use Rattle.events.proofs.Controller.{refused_port}
 use Rattle.events.proofs.Ranges.{stays_in_range}
-use Rattle.report.specs.declared.Reported.{Reported}
 use Rattle.report.specs.Report.{report_of}
-use Rattle.report.specs.Reported.{too_short, reported_of}
+use Rattle.report.specs.Reported.{Reported, too_short, reported_of}
 use Rattle.lists.specs.Items.{Item, runs, reports, receives, changes, at_port, Seen, Stepped, no_port, status_in, answered, step_item, after_items, seen_items, shown_in}
 use Rattle.lists.specs.ItemLaws.{turned_away}
 use Rattle.lists.proofs.ItemLaws.{accepted_is_key, refused_runs_nothing}
@@ -103,10 +101,10 @@ refused_alike image Start = record { leaves = refl; shows = refl }
 refused_alike image Parity = record { leaves = refl; shows = refl }
 refused_alike image Stop = record { leaves = refl; shows = refl }
 
-frame_alike : (image : Image) (frame : ℕ) (read : Reading) → read_frame frame ≡ read
+frame_alike : (image : Image) (frame : ℕ) (read : Result ℕ Fault) → read_frame frame ≡ read
     → Alike (step_item (service_of image) (receives frame)) (answered_by (framed_in image read))
-frame_alike image frame (reading.Byte byte) is = rw (accepted_is_key (service_of image) frame byte is) (event_alike image (Key byte))
-frame_alike image frame (reading.Refused fault) is = rw (refused_runs_nothing (service_of image) frame fault is) (refused_alike image fault)
+frame_alike image frame (Ok byte) is = rw (accepted_is_key (service_of image) frame byte is) (event_alike image (Key byte))
+frame_alike image frame (Err fault) is = rw (refused_runs_nothing (service_of image) frame fault is) (refused_alike image fault)
 
 change_alike : (image : Image) (set : CodeSet) → Alike (step_item (service_of image) (changes set)) (answered_by (change_to set image))
 unfolding step_item change_of answered_of shown_to_c when◌then◌else◌

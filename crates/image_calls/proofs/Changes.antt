@@ -1,5 +1,7 @@
 -- A status call changes nothing and writes the image anew: after it, an image of which one part was changed is what that change leaves.
 -- Assumes nothing.
+use Rattle.std.specs.Prelude.{Option}
+use Rattle.events.specs.declared.Event.{Event}
 use mathlib.Core.Path.{◌≡◌, refl, ap, ◌∙◌}
 use Rattle.bits.specs.Choice.{when◌then◌else◌}
 use Rattle.translation.specs.declared.CodeSet.{CodeSet}
@@ -15,7 +17,6 @@ use Rattle.events.specs.Sets.{change_of}
 use Rattle.image.specs.declared.Image.{Image}
 use Rattle.image.specs.Image.{keyboard_at, service_of, on_set}
 use Rattle.image.proofs.ImageLaws.{lower_back, upper_back, codes_back}
-use Rattle.image_calls.specs.declared.Recognised.{Recognised}
 use Rattle.image_calls.specs.Exports.{answered_nothing, shown_to_c, changed_by, step_in, written, tagged_in, event_to, change_to}
 use Rattle.image_calls.proofs.ExportLaws.{tags_recognised}
 
@@ -27,7 +28,7 @@ status_writes image other = refl
 pub status_stands : (image other : Image)
     → answered_nothing (event_to image (written (Call 0x02 0 0))) ≡ changed_by other (answered_of (service_of image) Nothing)
 status_stands image other =
-    ap (λ (event : Recognised). answered_nothing (tagged_in image event)) (tags_recognised (Call 0x02 0 0)) ∙ status_writes image other
+    ap (λ (event : Option Event). answered_nothing (tagged_in image event)) (tags_recognised (Call 0x02 0 0)) ∙ status_writes image other
 
 changed_service : (set : CodeSet) (image : Image) → service_of (on_set set image) ≡ with_codes (service_of image) (unmarked_of set)
 unfolding service_of keyboard_at on_set

@@ -1,5 +1,6 @@
 -- What the code of an event and of a report makes is what their definitions say.
 -- Assumes nothing.
+use Rattle.std.specs.Prelude.{Option, None, Some, Bool, not, is_some}
 use Prim.Native.Nat.{ℕ, ◌<◌, ◌≤◌}
 use mathlib.Core.Path.{◌≡◌, refl, ap, sym, ◌∙◌}
 use mathlib.Core.Bool.{true, false, true≢false}
@@ -33,12 +34,17 @@ use Rattle.image_calls.specs.declared.Tagged.{Tagged}
 use Rattle.image_calls.specs.declared.Ran.{Ran}
 use Rattle.image_calls.specs.declared.Changed.{Changed}
 use Rattle.image_calls.specs.declared.Refused.{Refused}
-use Rattle.image_calls.specs.declared.Recognised.{Recognised}
-use Rattle.image_calls.specs.declared.Recognised.TheVariants as recognised-as
 use Rattle.image_calls.specs.Exports.{shown_with, seen, shown_to_c, changed_by, step_in, refused_in, recognised, is_unknown, event_run, ans_in, ran_of, tagged_in, tried_in, reported_as, written_as}
 use Rattle.image_calls.proofs.Beside.{left_on, on_image}
 
 -- ---- an event
+
+-- what `is_none` returns of a tag's event is whether the tag is unknown
+pub none_unknown : (event : Option Event) (none : Bool) → is_some event ≡ not none → none ≡ is_unknown event
+none_unknown None true tells = refl
+none_unknown None false tells = tells
+none_unknown (Some event) true tells = tells
+none_unknown (Some event) false tells = refl
 
 -- what the code makes of the image that an event left
 abbrev told : Image → Image → ℕ → ℕ → ℕ → Changed
@@ -46,13 +52,13 @@ told image left ans word sent =
     let shown = shown_with left.flags ans word sent in
     when ltb 0x7F ans then record { image = image; shown = shown } else record { image = left; shown = shown }
 
-told_tagged : (image : Image) (event : Recognised) →
+told_tagged : (image : Image) (event : Option Event) →
     let ran = ran_of (service_of image) event in told image (image_of ran.service) ran.ans ran.word ran.sent ≡ tagged_in image event
 unfolding image_of refused_in step_in shown_to_c step_of call_of answered_of when◌then◌else◌
-told_tagged image recognised-as.Unknown = refl
-told_tagged image (recognised-as.Event event) = refl
+told_tagged image None = refl
+told_tagged image (Some event) = refl
 
-module _ (image : Image) (event : Recognised) (ran : Ran) (is : ran ≡ ran_of (bare_service_of image) event) where
+module _ (image : Image) (event : Option Event) (ran : Ran) (is : ran ≡ ran_of (bare_service_of image) event) where
   abbrev left : Image
   left = left_on image (event_run event) ran.service
 
@@ -130,9 +136,9 @@ tried_by image after sent (answer.Refused (refusal.Port Command)) = refl
 tried_by image after sent (answer.Refused (refusal.Port Unawaited)) = refl
 
 -- the tag that was recognised is the tag of the event
-abbrev Named : Tagged → Recognised → Type 0
-Named tagged recognised-as.Unknown = Unit {0}
-Named tagged (recognised-as.Event event) = tagged.tag ≡ tag_of event
+abbrev Named : Tagged → Option Event → Type 0
+Named tagged None = Unit {0}
+Named tagged (Some event) = tagged.tag ≡ tag_of event
 
 pub named : (tagged : Tagged) → Named tagged (recognised tagged)
 unfolding recognised
@@ -147,28 +153,28 @@ named tagged =
 
 -- what the code makes of a report, by what stopped it
 module _ (image : Image) (tagged : Tagged) (buffer : List ℕ) where
-  pub record Reports (event : Recognised) (refused : Refused) (left : List ℕ) : Type 0 where
+  pub record Reports (event : Option Event) (refused : Refused) (left : List ℕ) : Type 0 where
     pub result : refused ≡ reported_as image event buffer
     pub writes : left ≡ written_as image event buffer
 
-  pub unknown_report : (event : Recognised) → is_unknown event ≡ true → Reports event (record { image = image; refusal = 6 }) buffer
-  unknown_report recognised-as.Unknown is = record { result = refl; writes = refl }
-  unknown_report (recognised-as.Event event) is = absurd (true≢false (sym is))
+  pub unknown_report : (event : Option Event) → is_unknown event ≡ true → Reports event (record { image = image; refusal = 6 }) buffer
+  unknown_report None is = record { result = refl; writes = refl }
+  unknown_report (Some event) is = absurd (true≢false (sym is))
 
-  pub short_report : (event : Recognised) → is_unknown event ≡ false → length buffer < report_length
+  pub short_report : (event : Option Event) → is_unknown event ≡ false → length buffer < report_length
       → Reports event (record { image = image; refusal = 9 }) buffer
   unfolding tried_in when◌then◌else◌
-  short_report recognised-as.Unknown is short = absurd (true≢false is)
-  short_report (recognised-as.Event event) is short =
+  short_report None is short = absurd (true≢false is)
+  short_report (Some event) is short =
       let refused = short_refused (service_of image) event buffer short in
       record { result = rw refused.result; writes = sym refused.unwritten }
 
-  pub long_report : (event : Recognised) → is_unknown event ≡ false → Named tagged event → report_length ≤ length buffer
+  pub long_report : (event : Option Event) → is_unknown event ≡ false → Named tagged event → report_length ≤ length buffer
       → let changed = tagged_in image event in
       Reports event (record { image = changed.image; refusal = refusal_in changed.shown.ans }) (written_of (report_from tagged.tag (seen changed.shown)) buffer)
   unfolding step_in buffer_of report_of
-  long_report recognised-as.Unknown is name long = absurd (true≢false is)
-  long_report (recognised-as.Event event) is name long =
+  long_report None is name long = absurd (true≢false is)
+  long_report (Some event) is name long =
       let outcome : Outcome = step_of (service_of image) event in
       record {
         result = rw (long_reported (service_of image) event buffer long) (tried_by image outcome.service outcome.sent outcome.answer);

@@ -1,5 +1,7 @@
 -- A refusal leaves an image as it was.
 -- Assumes nothing.
+use Rattle.std.specs.Prelude.{Option, None, Some, Result, Ok, Err}
+use Rattle.frame.specs.declared.Fault.{Fault}
 use Prim.Native.Nat.{ℕ, ◌<◌}
 use mathlib.Core.Path.{◌≡◌, refl, sym, ◌∙◌}
 use mathlib.Core.Logic.{◌≢◌}
@@ -10,8 +12,6 @@ use lib.Dec.{ltb}
 use lib.ListN.{length}
 use Rattle.bits.specs.Choice.{when◌then◌else◌}
 use Rattle.bits.proofs.Choice.{by_test}
-use Rattle.frame.specs.declared.Reading.{Reading}
-use Rattle.frame.specs.declared.Reading.TheVariants as reading
 use Rattle.frame.specs.Frame.{read_frame}
 use Rattle.translation.specs.declared.CodeSet.{CodeSet}
 use Rattle.controller.specs.declared.PortEvent.{PortEvent}
@@ -25,8 +25,6 @@ use Rattle.events.specs.Controller.{port_step_of}
 use Rattle.report.specs.Reported.{report_length}
 use Rattle.report.proofs.BufferLaws.{short_refused}
 use Rattle.image.specs.declared.Image.{Image}
-use Rattle.image_calls.specs.declared.Recognised.{Recognised}
-use Rattle.image_calls.specs.declared.Recognised.TheVariants as recognised-as
 use Rattle.image_calls.specs.declared.Changed.{Changed}
 use Rattle.image_calls.specs.declared.Refused.{Refused}
 use Rattle.image.specs.Image.{image_of, service_of}
@@ -60,28 +58,28 @@ port_leaves : (image : Image) (event : PortEvent) → ltb 0x7F (port_to image ev
 unfolding port_to
 port_leaves image event = outcome_leaves image (port_step_of (service_of image) event).outcome
 
-tagged_leaves : (image : Image) (event : Recognised) → ltb 0x7F (tagged_in image event).shown.ans ≡ true → (tagged_in image event).image ≡ image
+tagged_leaves : (image : Image) (event : Option Event) → ltb 0x7F (tagged_in image event).shown.ans ≡ true → (tagged_in image event).image ≡ image
 unfolding refused_in
-tagged_leaves image recognised-as.Unknown refused = refl
-tagged_leaves image (recognised-as.Event event) refused = step_leaves image event refused
+tagged_leaves image None refused = refl
+tagged_leaves image (Some event) refused = step_leaves image event refused
 
-framed_leaves : (image : Image) (read : Reading) → ltb 0x7F (framed_in image read).shown.ans ≡ true → (framed_in image read).image ≡ image
+framed_leaves : (image : Image) (read : Result ℕ Fault) → ltb 0x7F (framed_in image read).shown.ans ≡ true → (framed_in image read).image ≡ image
 unfolding refused_in
-framed_leaves image (reading.Byte byte) refused = step_leaves image (Key byte) refused
-framed_leaves image (reading.Refused fault) refused = refl
+framed_leaves image (Ok byte) refused = step_leaves image (Key byte) refused
+framed_leaves image (Err fault) refused = refl
 
 tried_leaves : (image : Image) (refusal : ℕ) (after : Service) → (tried_in image refusal after).refusal ≢ 0 → (tried_in image refusal after).image ≡ image
 unfolding tried_in
 tried_leaves image refusal after =
     by_test (λ (tried : Refused). tried.refusal ≢ 0 → tried.image ≡ image) _ _ _ (λ _ refused. absurd (refused refl)) (λ _ _. refl)
 
-report_leaves : (image : Image) (event : Recognised) (buffer : List ℕ) → (reported_as image event buffer).refusal ≢ 0 → (reported_as image event buffer).image ≡ image
-report_leaves image recognised-as.Unknown buffer refused = refl
-report_leaves image (recognised-as.Event event) buffer refused = tried_leaves image _ _ refused
+report_leaves : (image : Image) (event : Option Event) (buffer : List ℕ) → (reported_as image event buffer).refusal ≢ 0 → (reported_as image event buffer).image ≡ image
+report_leaves image None buffer refused = refl
+report_leaves image (Some event) buffer refused = tried_leaves image _ _ refused
 
-short_leaves : (image : Image) (event : Recognised) (buffer : List ℕ) → length buffer < report_length → written_as image event buffer ≡ buffer
-short_leaves image recognised-as.Unknown buffer short = refl
-short_leaves image (recognised-as.Event event) buffer short = (short_refused (service_of image) event buffer short).unwritten
+short_leaves : (image : Image) (event : Option Event) (buffer : List ℕ) → length buffer < report_length → written_as image event buffer ≡ buffer
+short_leaves image None buffer short = refl
+short_leaves image (Some event) buffer short = (short_refused (service_of image) event buffer short).unwritten
 
 make_leaves : (set : CodeSet) (image : Image) (bits : ℕ) → 15 < bits → make_to set image bits ≡ record { image = image; refusal = 1 }
 unfolding make_of tried_in when◌then◌else◌

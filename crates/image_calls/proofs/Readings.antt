@@ -8,12 +8,11 @@ use mathlib.Core.Bool.{false}
 use mathlib.Core.List.{List, ◌∷◌, map}
 use lib.Dec.{eqb}
 use lib.ListN.{length, drop, length-drop}
+use Rattle.std.specs.Prelude.{Some, None, Ok, Err}
 use Rattle.bits.specs.Choice.{when◌then◌else◌}
 use Rattle.events.specs.declared.Event.{Event}
 use Rattle.events.specs.declared.Event.TheVariants.{Key, Call, Poll, TimeOut, Empty, Restart, Scan}
-use Rattle.pack.specs.declared.Read.{Read}
-use Rattle.pack.specs.declared.Read.TheVariants as read
-use Rattle.pack.specs.Reading.{read_at, rest_of, refusal_of}
+use Rattle.pack.specs.Reading.{Read, read_at, rest_of, refusal_of}
 use Rattle.pack.specs.Parsing.{parse_by, parse_from, parse}
 use Rattle.pack.specs.Laws.{Stops}
 use Rattle.pack.proofs.Walk.{by_kind, event_at, by_next, by_stop}
@@ -23,20 +22,14 @@ use Rattle.image_calls.specs.Reads.{stopped_at, reading_from}
 use Rattle.image_calls.specs.ReadLaws.{EventsTold, events_by, PackReadWhole}
 
 pub rest_within : (found : Read) (part : List ℕ) → length (rest_of found part) ≤ length part
-rest_within (read.Event event bytes) part = omega (arith, length-drop bytes part)
-rest_within read.End part = omega arith
-rest_within read.UnknownTag part = omega arith
-rest_within read.CutShort part = omega arith
-rest_within read.TooLong part = omega arith
-rest_within read.Beyond part = omega arith
+rest_within (Ok (Some (event, bytes))) part = omega (arith, length-drop bytes part)
+rest_within (Ok None) part = omega arith
+rest_within (Err refusal) part = omega arith
 
 pub stops_there : (pack : List ℕ) (start : ℕ) (found : Read) → Stops found → reading_from pack start found ≡ stopped_at start (refusal_of found)
-stops_there pack start (read.Event _ _) none = elim none [ ]
-stops_there pack start read.End none = refl
-stops_there pack start read.UnknownTag none = refl
-stops_there pack start read.CutShort none = refl
-stops_there pack start read.TooLong none = refl
-stops_there pack start read.Beyond none = refl
+stops_there pack start (Ok (Some (_, _))) none = elim none [ ]
+stops_there pack start (Ok None) none = refl
+stops_there pack start (Err refusal) none = refl
 
 pub events_told : EventsTold
 events_told pack start event bytes e =

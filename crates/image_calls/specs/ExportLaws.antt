@@ -1,19 +1,18 @@
 -- What holds of the calls for C. ExportLaws.antt of proofs/ proves each sentence.
 -- Assumes nothing.
-use Rattle.std.specs.Prelude.{ℕ, ◌<◌, ◌≡◌, ◌≢◌, true, List, ltb, length}
+use Rattle.std.specs.Prelude.{ℕ, ◌<◌, ◌≡◌, ◌≢◌, true, List, ltb, length, None, Some}
 use Rattle.translation.specs.declared.CodeSet.{CodeSet}
 use Rattle.controller.specs.declared.PortEvent.{PortEvent}
 use Rattle.events.specs.declared.Event.{Event}
 use Rattle.report.specs.Reported.{report_length}
 use Rattle.image.specs.declared.Image.{Image}
 use Rattle.image_calls.specs.declared.Tagged.{Tagged}
-use Rattle.image_calls.specs.declared.Recognised.TheVariants as recognised-as
 use Rattle.image_calls.specs.Exports.{written, recognised, event_to, frame_to, make_to, report_to, written_to}
 use Rattle.image_calls.specs.PortCalls.{port_to}
 
 -- every event is recognised by the tag and bytes that it is written with
 abbrev pub TagsRecognised : Type 0
-TagsRecognised = (event : Event) → recognised (written event) ≡ recognised-as.Event event
+TagsRecognised = (event : Event) → recognised (written event) ≡ Some event
 
 -- 1 to 6, 9 and 11 to 16 leave the image, and the two that come before a reported event runs, 6 and 9, leave the buffer too
 pub record Leaves : Type 0 where
@@ -33,4 +32,4 @@ pub record Unnamed (image : Image) (tagged : Tagged) (buffer : List ℕ) : Type 
 
 abbrev pub UnknownRefused : Type 0
 UnknownRefused =
-    (image : Image) (tagged : Tagged) (buffer : List ℕ) → recognised tagged ≡ recognised-as.Unknown → Unnamed image tagged buffer
+    (image : Image) (tagged : Tagged) (buffer : List ℕ) → recognised tagged ≡ None → Unnamed image tagged buffer

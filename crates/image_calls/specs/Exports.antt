@@ -1,18 +1,18 @@
 -- The calls for C: what each leaves in the image that is lent, what it returns, and what it writes. A call that is refused, by any number,
 -- leaves the image as it was, number for number.
 -- Assumes nothing.
-use Rattle.std.specs.Prelude.{ℕ, ◌+◌, Bool, true, false, List, [], eqb, ltb}
+use Rattle.frame.specs.declared.Fault.{Fault}
+use Rattle.std.specs.Prelude.{ℕ, ◌+◌, Bool, true, false, List, [], eqb, ltb, Option, None, Some, Result, Ok, Err}
 use Rattle.bits.specs.Choice.{when◌then◌else◌}
-use Rattle.frame.specs.declared.Reading.{Reading}
-use Rattle.frame.specs.declared.Reading.TheVariants as reading
 use Rattle.frame.specs.Frame.{read_frame, fault_number}
 use Rattle.line.specs.State.{sent_of}
 use Rattle.translation.specs.declared.CodeSet.{CodeSet}
 use Rattle.state.specs.declared.Service.{Service}
+use Rattle.state.specs.declared.MakingRefusal.{MakingRefusal}
 use Rattle.events.specs.declared.Event.{Event}
 use Rattle.events.specs.declared.Event.TheVariants.{Key, Call, Poll, TimeOut, Empty, Restart, Scan}
 use Rattle.events.specs.declared.Outcome.{Outcome}
-use Rattle.state.specs.State.{make_of}
+use Rattle.state.specs.State.{making_refusal_number, make_of}
 use Rattle.answers.specs.declared.Answer.{Answer}
 use Rattle.answers.specs.declared.Answer.TheVariants.{Nothing, Done}
 use Rattle.answers.specs.Answers.{ans_of, word_of}
@@ -30,8 +30,6 @@ use Rattle.image.specs.ImageFlags.{flag_bytes_of}
 use Rattle.image.specs.ImageController.{controller_image, controller_at, new_controller_image}
 use Rattle.image_calls.specs.declared.Shown.{Shown}
 use Rattle.image_calls.specs.declared.Tagged.{Tagged}
-use Rattle.image_calls.specs.declared.Recognised.{Recognised}
-use Rattle.image_calls.specs.declared.Recognised.TheVariants as recognised-as
 use Rattle.image_calls.specs.declared.Ran.{Ran}
 use Rattle.image_calls.specs.declared.Changed.{Changed}
 use Rattle.image_calls.specs.declared.Refused.{Refused}
@@ -113,30 +111,30 @@ written Restart = record { tag = tag_of Restart; a = 0; b = 0; c = 0 }
 written (Scan byte) = record { tag = tag_of (Scan byte); a = byte; b = 0; c = 0 }
 
 -- the events by the capitals that a pack has for them
-unfoldable pub recognised : Tagged → Recognised
+unfoldable pub recognised : Tagged → Option Event
 recognised tagged =
-    when eqb tagged.tag key_tag then recognised-as.Event (Key tagged.a)
-    else when eqb tagged.tag call_tag then recognised-as.Event (Call tagged.a tagged.b tagged.c)
-    else when eqb tagged.tag poll_tag then recognised-as.Event Poll
-    else when eqb tagged.tag time_out_tag then recognised-as.Event TimeOut
-    else when eqb tagged.tag empty_tag then recognised-as.Event Empty
-    else when eqb tagged.tag restart_tag then recognised-as.Event Restart
-    else when eqb tagged.tag scan_tag then recognised-as.Event (Scan tagged.a)
-    else recognised-as.Unknown
+    when eqb tagged.tag key_tag then Some (Key tagged.a)
+    else when eqb tagged.tag call_tag then Some (Call tagged.a tagged.b tagged.c)
+    else when eqb tagged.tag poll_tag then Some Poll
+    else when eqb tagged.tag time_out_tag then Some TimeOut
+    else when eqb tagged.tag empty_tag then Some Empty
+    else when eqb tagged.tag restart_tag then Some Restart
+    else when eqb tagged.tag scan_tag then Some (Scan tagged.a)
+    else None
 
-abbrev pub is_unknown : Recognised → Bool
-is_unknown recognised-as.Unknown = true
-is_unknown (recognised-as.Event event) = false
+abbrev pub is_unknown : Option Event → Bool
+is_unknown None = true
+is_unknown (Some event) = false
 
 -- an unknown tag runs as a call that 2 refuses, which changes nothing, and is shown as refused by 6
-abbrev pub event_run : Recognised → Event
-event_run recognised-as.Unknown = Call 0xFF 0 0
-event_run (recognised-as.Event event) = event
+abbrev pub event_run : Option Event → Event
+event_run None = Call 0xFF 0 0
+event_run (Some event) = event
 
 abbrev pub ans_in : Answer → Bool → ℕ
 ans_in answer unknown = when unknown then 0x86 else ans_of answer
 
-abbrev pub ran_of : Service → Recognised → Ran
+abbrev pub ran_of : Service → Option Event → Ran
 ran_of service event =
     let outcome = step_of service (event_run event) in
     record {
@@ -146,17 +144,17 @@ ran_of service event =
       sent = outcome.sent;
     }
 
-abbrev pub tagged_in : Image → Recognised → Changed
-tagged_in image recognised-as.Unknown = refused_in image 6
-tagged_in image (recognised-as.Event event) = step_in image event
+abbrev pub tagged_in : Image → Option Event → Changed
+tagged_in image None = refused_in image 6
+tagged_in image (Some event) = step_in image event
 
 abbrev pub event_to : Image → Tagged → Changed
 event_to image tagged = tagged_in image (recognised tagged)
 
 -- a frame: the event of its byte, or refused by the number of its fault
-abbrev pub framed_in : Image → Reading → Changed
-framed_in image (reading.Byte byte) = step_in image (Key byte)
-framed_in image (reading.Refused fault) = refused_in image (fault_number fault)
+abbrev pub framed_in : Image → Result ℕ Fault → Changed
+framed_in image (Ok byte) = step_in image (Key byte)
+framed_in image (Err fault) = refused_in image (fault_number fault)
 
 abbrev pub frame_to : Image → ℕ → Changed
 frame_to image frame = framed_in image (read_frame frame)
@@ -166,8 +164,18 @@ unfoldable pub tried_in : Image → ℕ → Service → Refused
 tried_in image refusal after =
     when eqb refusal 0 then record { image = image_of after; refusal = 0 } else record { image = image; refusal = refusal }
 
+-- the image of a service that was made
+abbrev pub image_made : Result Service MakingRefusal → Result Image MakingRefusal
+image_made (Ok made) = Ok (image_of made)
+image_made (Err refusal) = Err refusal
+
+-- an image takes the place of the one that is lent, or is refused by its number
+abbrev pub made_in : Image → Result Image MakingRefusal → Refused
+made_in image (Ok made) = record { image = made; refusal = 0 }
+made_in image (Err refusal) = record { image = image; refusal = making_refusal_number refusal }
+
 abbrev pub make_to : CodeSet → Image → ℕ → Refused
-make_to set image bits = tried_in image (make_of set bits).refusal (make_of set bits).service
+make_to set image bits = made_in image (image_made (make_of set bits))
 
 -- a change of set is never refused
 abbrev pub change_to : CodeSet → Image → Changed
@@ -180,13 +188,13 @@ report_in image event buffer =
 abbrev pub written_in : Image → Event → List ℕ → List ℕ
 written_in image event buffer = buffer_of (service_of image) event buffer
 
-abbrev pub reported_as : Image → Recognised → List ℕ → Refused
-reported_as image recognised-as.Unknown buffer = record { image = image; refusal = 6 }
-reported_as image (recognised-as.Event event) buffer = report_in image event buffer
+abbrev pub reported_as : Image → Option Event → List ℕ → Refused
+reported_as image None buffer = record { image = image; refusal = 6 }
+reported_as image (Some event) buffer = report_in image event buffer
 
-abbrev pub written_as : Image → Recognised → List ℕ → List ℕ
-written_as image recognised-as.Unknown buffer = buffer
-written_as image (recognised-as.Event event) buffer = written_in image event buffer
+abbrev pub written_as : Image → Option Event → List ℕ → List ℕ
+written_as image None buffer = buffer
+written_as image (Some event) buffer = written_in image event buffer
 
 -- 6 comes before 9, since there is no event to report
 abbrev pub report_to : Image → Tagged → List ℕ → Refused

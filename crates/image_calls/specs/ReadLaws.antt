@@ -1,9 +1,8 @@
 -- What holds of a pack that C reads. Readings.antt of proofs/ proves each sentence.
 -- Assumes nothing.
-use Rattle.std.specs.Prelude.{ℕ, zero, suc, ◌+◌, ◌≡◌, List, [], ◌∷◌, map, eqb, length}
+use Rattle.std.specs.Prelude.{ℕ, zero, suc, ◌+◌, ◌≡◌, List, [], ◌∷◌, map, eqb, length, Some, Ok}
 use Rattle.bits.specs.Choice.{when◌then◌else◌}
 use Rattle.events.specs.declared.Event.{Event}
-use Rattle.pack.specs.declared.Read.TheVariants as read
 use Rattle.pack.specs.Reading.{read_at}
 use Rattle.pack.specs.Parsing.{parse}
 use Rattle.image_calls.specs.declared.Tagged.{Tagged}
@@ -18,7 +17,7 @@ pub record Told (pack : List ℕ) (start : ℕ) (event : Event) (bytes : ℕ) : 
 
 abbrev pub EventsTold : Type 0
 EventsTold =
-    (pack : List ℕ) (start : ℕ) (event : Event) (bytes : ℕ) → read_at pack start ≡ read.Event event bytes → Told pack start event bytes
+    (pack : List ℕ) (start : ℕ) (event : Event) (bytes : ℕ) → read_at pack start ≡ Ok (Some (event, bytes)) → Told pack start event bytes
 
 -- the events of at most so many readings, each from where the one before says that the next begins, up to the first tag 0
 abbrev pub events_by : ℕ → List ℕ → ℕ → List Tagged

@@ -2,7 +2,6 @@
 // Their code is in `image_reading`, `image_renewal`, `image_events` and `xiquepazo`.
 #![tactic(auto)]
 
-use events::Event;
 use image::Image;
 use state::Service;
 
@@ -33,18 +32,12 @@ pub struct PortShown {
 
 // An event as a pack writes it: its capital and up to three bytes.
 #[repr(C)]
-#[derive(Clone, Copy)]
+#[derive(Clone, Copy, Default)]
 pub struct Tagged {
     pub tag: u8,
     pub a: u8,
     pub b: u8,
     pub c: u8,
-}
-
-#[derive(Clone, Copy)]
-pub enum Recognised {
-    Unknown,
-    Event(Event),
 }
 
 // A service after an event, and what it answered.
@@ -68,6 +61,7 @@ pub struct PortChanged {
     pub shown: PortShown,
 }
 
+// What a report leaves: refusal 0, or its number. A number and no enum, since the event's answer is C's number here too.
 #[derive(Clone, Copy)]
 pub struct Refused {
     pub image: Image,

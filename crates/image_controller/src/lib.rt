@@ -31,9 +31,7 @@ fn held_in(buffer: Buffer) -> u8
     ensures { result ≡ held_in buffer }
 {
     match buffer {
-        Buffer::Empty(last) => last,
-        Buffer::Key(byte) => byte,
-        Buffer::Answer(byte) => byte,
+        Buffer::Empty(byte) | Buffer::Key(byte) | Buffer::Answer(byte) => byte,
     }
 }
 
@@ -47,6 +45,7 @@ fn buffer_of(number: u8, byte: u8) -> Buffer
     }
 }
 
+#[tactic(auto, unfolding(image::specs::ImageController::controller_image))]
 pub fn image_of(controller: Controller) -> ControllerImage
     ensures { result ≡ controller_image controller }
 {
@@ -61,6 +60,7 @@ pub fn image_of(controller: Controller) -> ControllerImage
     }
 }
 
+#[tactic(auto, unfolding(image::specs::ImageController::controller_at))]
 pub fn controller_of(image: ControllerImage) -> Controller
     ensures { result ≡ controller_at image }
 {
@@ -73,6 +73,7 @@ pub fn controller_of(image: ControllerImage) -> Controller
 }
 
 // A new controller.
+#[tactic(auto, unfolding(image::specs::ImageController::new_controller_image))]
 pub fn new() -> ControllerImage
     ensures { result ≡ new_controller_image }
 {
@@ -93,19 +94,20 @@ pub fn in_range(image: ControllerImage) -> ControllerImage
     let is_other = (image.buffer != 1) & (image.buffer != 2);
     ControllerImage {
         buffer: if is_other { 0 } else { image.buffer },
-        byte: image.byte,
-        command: image.command,
         awaiting: (image.awaiting != 0) as u8,
         commanded: (image.commanded != 0) as u8,
         spare: [0; 3],
+        ..image
     }
 }
 
 // The image with another controller, and nothing else changed.
+#[tactic(auto, unfolding(image::specs::Image::on_controller))]
 pub fn on_controller(controller: ControllerImage, image: Image) -> Image
     ensures { result ≡ on_controller controller image }
 {
-    let mut next = image;
-    next.controller = controller;
-    next
+    Image {
+        controller,
+        ..image
+    }
 }

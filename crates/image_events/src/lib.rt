@@ -8,7 +8,7 @@ ghost use Rattle.events.specs.ControllerLaws.{is_restart};
 use answers::Answer;
 use events::Event;
 use image::{ControllerImage, FlagBytes, Image};
-use image_calls::{Changed, Ran, Recognised, Shown, Tagged};
+use image_calls::{Changed, Ran, Shown, Tagged};
 use state::Service;
 
 fn shown_with(flags: FlagBytes, ans: u8, word: u16, sent: u8) -> Shown
@@ -26,25 +26,19 @@ fn shown_with(flags: FlagBytes, ans: u8, word: u16, sent: u8) -> Shown
 }
 
 // For an unknown tag a call that is refused, since it too changes nothing: then every event takes one way through the code.
-fn event_in(event: Recognised) -> Event
+fn event_in(event: Option<Event>) -> Event
     ensures { result ≡ event_run event }
 {
-    match event {
-        Recognised::Unknown => Event::Call(0xFF, 0, 0),
-        Recognised::Event(event) => event,
-    }
+    event.unwrap_or(Event::Call(0xFF, 0, 0))
 }
 
 fn ans_of(answer: Answer, unknown: bool) -> u8
     ensures { result ≡ ans_in answer unknown }
 {
-    if unknown {
-        return 0x86;
-    }
-    answers::number(answer)
+    if unknown { 0x86 } else { answer.number() }
 }
 
-fn run(service: Service, event: Recognised) -> Ran
+fn run(service: Service, event: Option<Event>) -> Ran
     ensures { result ≡ ran_of service event }
 {
     let outcome = service::step(service, event_in(event));
@@ -52,8 +46,8 @@ fn run(service: Service, event: Recognised) -> Ran
     let answer = outcome.answer;
     Ran {
         service: after,
-        ans: ans_of(answer, image_reading::is_unknown(event)),
-        word: answers::word(answer),
+        ans: ans_of(answer, event.is_none()),
+        word: answer.word(),
         sent: outcome.sent,
     }
 }
@@ -61,15 +55,7 @@ fn run(service: Service, event: Recognised) -> Ran
 fn is_restart(event: Event) -> bool
     ensures { result ≡ is_restart event }
 {
-    match event {
-        Event::Key(_) => false,
-        Event::Call(_, _, _) => false,
-        Event::Poll => false,
-        Event::TimeOut => false,
-        Event::Empty => false,
-        Event::Restart => true,
-        Event::Scan(_) => false,
-    }
+    matches!(event, Event::Restart)
 }
 
 // The controller's numbers after an event, which looks at none of them.

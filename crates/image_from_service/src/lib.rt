@@ -13,22 +13,19 @@ mod port_part;
 mod queue_part;
 
 // The controller's numbers are handed over: no event makes them of the service.
+#[tactic(auto, unfolding(image::specs::Image::image_of, image::specs::Image::on_controller))]
 pub fn image_of(service: Service, controller: ControllerImage) -> Image
     ensures { result ≡ on_controller controller (image_of service) }
 {
     let keyboard = service.ports.keyboard;
-    let scanner = service.ports.scanner;
-    let prefix = keyboard.prefix;
-    let line = service.line;
-    let queue = service.queue;
-    let codes = service.codes;
+    let prefix = flags_part::prefix_number(keyboard.prefix);
     Image {
         flags: flags_part::flag_bytes(service),
-        input: image_making::input_number(flags_part::prefix_number(prefix), codes),
+        input: image_making::input_number(prefix, service.codes),
         sum: keyboard.sum,
-        line: line_part::image_of(line),
-        queue: queue_part::image_of(queue),
-        scanner: port_part::image_of(scanner),
+        line: line_part::image_of(service.line),
+        queue: queue_part::image_of(service.queue),
+        scanner: port_part::image_of(service.ports.scanner),
         controller,
     }
 }

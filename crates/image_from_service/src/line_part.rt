@@ -3,7 +3,7 @@ ghost use Rattle.std.specs.Prelude.{◌≡◌};
 ghost use Rattle.image.specs.ImageLine.{kind_number, setting_image, command_image, phase_image, line_image};
 
 use image::{CommandImage, LineImage, SettingImage};
-use line::{Command, Kind, Line, Phase, Setting};
+use line::{Command, Kind, Line, Phase};
 
 fn kind_number(kind: Kind) -> u8
     ensures { result ≡ kind_number kind }
@@ -14,22 +14,21 @@ fn kind_number(kind: Kind) -> u8
     }
 }
 
-fn setting_image(setting: Setting) -> SettingImage
+fn setting_image(setting: Option<u8>) -> SettingImage
     ensures { result ≡ setting_image setting }
 {
-    match setting {
-        Setting::None => SettingImage { known: 0, value: 0 },
-        Setting::Value(value) => SettingImage { known: 1, value },
-    }
+    setting.map_or(
+        SettingImage::default(),
+        |value| SettingImage { known: 1, value },
+    )
 }
 
 fn command_image(phase: u8, command: Command) -> CommandImage
     ensures { result ≡ command_image phase command }
 {
-    let kind = command.kind;
     CommandImage {
         phase,
-        kind: kind_number(kind),
+        kind: kind_number(command.kind),
         value: command.value,
         operand: command.operand as u8,
         sends: command.sends,
@@ -42,27 +41,21 @@ fn phase_image(phase: Phase) -> CommandImage
 {
     match phase {
         Phase::Idle(turn) => CommandImage {
-            phase: 0,
             kind: kind_number(turn),
-            value: 0,
-            operand: 0,
-            sends: 0,
-            sent: 0,
+            ..CommandImage::default()
         },
         Phase::Awaiting(command) => command_image(1, command),
         Phase::Ready(command) => command_image(2, command),
     }
 }
 
+#[tactic(auto, unfolding(image::specs::ImageLine::line_image))]
 pub fn image_of(line: Line) -> LineImage
     ensures { result ≡ line_image line }
 {
-    let phase = line.phase;
-    let handled = line.handled;
-    let rate = line.rate;
     LineImage {
-        command: phase_image(phase),
-        handled: setting_image(handled),
-        rate: setting_image(rate),
+        command: phase_image(line.phase),
+        handled: setting_image(line.handled),
+        rate: setting_image(line.rate),
     }
 }

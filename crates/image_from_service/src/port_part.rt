@@ -6,6 +6,7 @@ use crate::flags_part;
 use image::PortImage;
 use port::{Held, Port, Sides};
 
+#[tactic(auto, unfolding(image::specs::ImagePort::sides_number))]
 fn sides_number(sides: Sides) -> u8
     ensures { result ≡ sides_number sides }
 {
@@ -21,6 +22,7 @@ fn sides_number(sides: Sides) -> u8
     )
 }
 
+#[tactic(auto, unfolding(image::specs::ImagePort::locks_held_number))]
 fn locks_held_number(held: Held) -> u8
     ensures { result ≡ locks_held_number held }
 {
@@ -36,14 +38,14 @@ fn locks_held_number(held: Held) -> u8
     )
 }
 
+#[tactic(auto, unfolding(image::specs::ImagePort::port_image))]
 pub fn image_of(port: Port) -> PortImage
     ensures { result ≡ port_image port }
 {
-    let prefix = port.prefix;
     let modifiers = port.modifiers;
     let held = port.held;
     PortImage {
-        prefix: flags_part::prefix_number(prefix),
+        prefix: flags_part::prefix_number(port.prefix),
         sum: port.sum,
         shift: sides_number(modifiers.shift),
         ctrl: sides_number(modifiers.ctrl),

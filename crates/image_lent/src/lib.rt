@@ -32,16 +32,11 @@ pub fn event_on_copy(image: Image, tagged: Tagged) -> Changed
 fn standing(image: Image) -> Shown
     ensures { result ≡ (refused_in image 6).shown }
 {
-    let unknown = Tagged {
-        tag: 0,
-        a: 0,
-        b: 0,
-        c: 0,
-    };
-    let changed = event_on_copy(image, unknown);
+    let changed = event_on_copy(image, Tagged::default());
     changed.shown
 }
 
+#[tactic(auto, unfolding(image_calls::specs::Exports::refused_in))]
 pub fn flag_bytes(image: Image) -> FlagBytes
     ensures { result ≡ flags_to image }
 {
@@ -58,17 +53,19 @@ pub fn flag_bytes(image: Image) -> FlagBytes
 fn with_answer(shown: Shown, ans: u8) -> Shown
     ensures { result ≡ with_answer shown ans }
 {
-    let mut next = shown;
-    next.ans = ans;
-    next.word = 0;
-    next
+    Shown {
+        ans,
+        word: 0,
+        ..shown
+    }
 }
 
 // Turned away: the image as it was, and what stands.
+#[tactic(auto, unfolding(image_calls::specs::Exports::refused_in))]
 pub fn refused(image: Image, refusal: Refusal) -> Changed
     ensures { result ≡ refused_in image (refusal_number refusal) }
 {
-    let ans = answers::number(Answer::Refused(refusal));
+    let ans = Answer::Refused(refusal).number();
     let shown = with_answer(standing(image), ans);
     Changed { image, shown }
 }
@@ -83,6 +80,6 @@ pub fn standing_anew(image: Image) -> Changed
     let shown = changed.shown;
     Changed {
         image: after,
-        shown: with_answer(shown, answers::number(Answer::Nothing)),
+        shown: with_answer(shown, Answer::Nothing.number()),
     }
 }

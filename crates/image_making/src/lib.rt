@@ -5,11 +5,8 @@ ghost use Rattle.std.specs.Prelude.{◌≡◌, ◌/◌};
 ghost use Rattle.translation.specs.Translation.{set_of};
 ghost use Rattle.image.specs.Image.{new_image, on_set};
 ghost use Rattle.image.specs.ImageFlags.{input_number, codes_at};
-ghost use Rattle.image.specs.ImagePort.{new_port_image};
 
-use image::{
-    CommandImage, FlagBytes, Image, LineImage, PortImage, QueueImage, SettingImage, WordImage,
-};
+use image::{FlagBytes, Image, LineImage, PortImage, QueueImage, WordImage};
 use translation::{CodeSet, Codes};
 
 // The byte with the number of a prefix as its lower half and the codes as its upper half.
@@ -33,22 +30,8 @@ pub fn codes_of(number: u8) -> Codes
     }
 }
 
-fn no_key_down() -> PortImage
-    ensures { result ≡ new_port_image }
-{
-    PortImage {
-        prefix: 0,
-        sum: 0,
-        shift: 0,
-        ctrl: 0,
-        alt: 0,
-        locks: 0,
-        insert: 0,
-        sysreq: 0,
-    }
-}
-
 // Written out, so that `image_from_service::image_of` is called from one place only, where the compiler puts its code.
+#[tactic(auto, unfolding(image::specs::Image::new_image, image::specs::ImageController::new_controller_image, image::specs::ImagePort::new_port_image))]
 pub fn new(set: CodeSet, bits: u8) -> Image
     ensures { result ≡ new_image set bits }
 {
@@ -56,30 +39,17 @@ pub fn new(set: CodeSet, bits: u8) -> Image
     Image {
         flags: FlagBytes {
             byte17: 16 * (bits % 16),
-            byte18: 0,
-            byte96: 0,
-            byte97: 0,
+            ..FlagBytes::default()
         },
         input: input_number(0, codes),
         sum: 0,
-        line: LineImage {
-            rate: SettingImage { known: 0, value: 0 },
-            handled: SettingImage { known: 0, value: 0 },
-            command: CommandImage {
-                phase: 0,
-                kind: 0,
-                value: 0,
-                operand: 0,
-                sends: 0,
-                sent: 0,
-            },
-        },
+        line: LineImage::default(),
         queue: QueueImage {
-            words: [WordImage { scan: 0, ascii: 0 }; 16],
+            words: [WordImage::default(); 16],
             head: 0,
             count: 0,
         },
-        scanner: no_key_down(),
+        scanner: PortImage::default(),
         controller: image_controller::new(),
     }
 }
@@ -92,10 +62,12 @@ pub fn set_of(image: Image) -> CodeSet
 }
 
 // The image with the set changed, and nothing else.
+#[tactic(auto, unfolding(image::specs::Image::on_set))]
 pub fn on_set(set: CodeSet, image: Image) -> Image
     ensures { result ≡ on_set set image }
 {
-    let mut next = image;
-    next.input = input_number(image.input, translation::unmarked(set));
-    next
+    Image {
+        input: input_number(image.input, translation::unmarked(set)),
+        ..image
+    }
 }

@@ -7,7 +7,6 @@ ghost use Rattle.image_calls.specs.Exports.{seen, frame_to, change_to, report_to
 
 use answers::Refusal;
 use events::Event;
-use frame::Reading;
 use image::Image;
 use image_calls::{Changed, Refused, Shown, Tagged};
 use report::Report;
@@ -31,7 +30,7 @@ fn report_of(tag: u8, shown: Shown) -> Report
 pub fn report(image: Image, tagged: Tagged, buffer: &mut [u8]) -> Refused
     ensures { (result ≡ report_to image tagged buffer.old) × (buffer.new ≡ written_to image tagged buffer.old) }
 {
-    if image_reading::is_unknown(image_reading::recognise(tagged)) {
+    if image_reading::recognise(tagged).is_none() {
         return Refused { image, refusal: 6 };
     }
     if buffer.len() < report::LENGTH {
@@ -52,28 +51,13 @@ pub fn frame(image: Image, frame: u16) -> Changed
     ensures { result ≡ frame_to image frame }
 {
     match frame::read(frame) {
-        Reading::Byte(byte) => image_lent::event_on_copy(
-            image,
-            image_reading::tagged_of(Event::Key(byte)),
-        ),
-        Reading::Refused(fault) => image_lent::refused(image, Refusal::Frame(fault)),
+        Ok(byte) => image_lent::event_on_copy(image, image_reading::tagged_of(Event::Key(byte))),
+        Err(fault) => image_lent::refused(image, Refusal::Frame(fault)),
     }
 }
 
-fn change(set: CodeSet, image: Image) -> Changed
+pub fn change(set: CodeSet, image: Image) -> Changed
     ensures { result ≡ change_to set image }
 {
     image_lent::standing_anew(image_making::on_set(set, image))
-}
-
-pub fn to_set_one(image: Image) -> Changed
-    ensures { result ≡ change_to CodeSet.One image }
-{
-    change(CodeSet::One, image)
-}
-
-pub fn to_set_two(image: Image) -> Changed
-    ensures { result ≡ change_to CodeSet.Two image }
-{
-    change(CodeSet::Two, image)
 }

@@ -31,7 +31,7 @@ fn on_response(image: Image, left: Controller, response: Response) -> Changed
     }
 }
 
-fn port_event(image: Image, event: PortEvent) -> PortChanged
+pub fn port_event(image: Image, event: PortEvent) -> PortChanged
     ensures { result ≡ port_to image event }
 {
     let numbers = image.controller;
@@ -51,34 +51,4 @@ fn port_event(image: Image, event: PortEvent) -> PortChanged
             fed: controller::is_key_in(response) as u8,
         },
     }
-}
-
-pub fn from_keyboard(image: Image, byte: u8) -> PortChanged
-    ensures { result ≡ port_to image (PortEvent.FromKeyboard byte) }
-{
-    port_event(image, PortEvent::FromKeyboard(byte))
-}
-
-pub fn read_60(image: Image) -> PortChanged
-    ensures { result ≡ port_to image PortEvent.Read60 }
-{
-    port_event(image, PortEvent::Read60)
-}
-
-pub fn read_64(image: Image) -> PortChanged
-    ensures { result ≡ port_to image PortEvent.Read64 }
-{
-    port_event(image, PortEvent::Read64)
-}
-
-pub fn write_60(image: Image, byte: u8) -> PortChanged
-    ensures { result ≡ port_to image (PortEvent.Write60 byte) }
-{
-    port_event(image, PortEvent::Write60(byte))
-}
-
-pub fn write_64(image: Image, byte: u8) -> PortChanged
-    ensures { result ≡ port_to image (PortEvent.Write64 byte) }
-{
-    port_event(image, PortEvent::Write64(byte))
 }

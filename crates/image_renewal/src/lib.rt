@@ -1,37 +1,24 @@
-// An image made on either set, and one resynchronised, by value. A refused call leaves every number of the image.
+// An image made on either set, and one resynchronised, by value.
 #![tactic(auto)]
 
 ghost use Rattle.std.specs.Prelude.{◌≡◌};
-ghost use Rattle.image_calls.specs.Exports.{make_to, resynchronised_to};
+ghost use Rattle.state.specs.State.{make_of};
+ghost use Rattle.image_calls.specs.Exports.{image_made, resynchronised_to};
 
 use answers::Answer;
 use image::Image;
-use image_calls::{Changed, Refused, Shown};
+use image_calls::{Changed, Shown};
+use state::MakingRefusal;
 use translation::CodeSet;
 
-// A service newly made on a set with four lock bits, or refusal 1.
-fn made(set: CodeSet, image: Image, bits: u8) -> Refused
-    ensures { result ≡ make_to set image bits }
+// A service newly made on a set with four lock bits, as an image.
+pub fn make(set: CodeSet, bits: u8) -> Result<Image, MakingRefusal>
+    ensures { result ≡ image_made (make_of set bits) }
 {
     if 15 < bits {
-        return Refused { image, refusal: 1 };
+        return Err(MakingRefusal::LockBits);
     }
-    Refused {
-        image: image_making::new(set, bits),
-        refusal: 0,
-    }
-}
-
-pub fn make(image: Image, bits: u8) -> Refused
-    ensures { result ≡ make_to CodeSet.One image bits }
-{
-    made(CodeSet::One, image, bits)
-}
-
-pub fn make_set_two(image: Image, bits: u8) -> Refused
-    ensures { result ≡ make_to CodeSet.Two image bits }
-{
-    made(CodeSet::Two, image, bits)
+    Ok(image_making::new(set, bits))
 }
 
 // As the all-up run at both ports, E and R leave it, with what this R shows: new, but for the set and the lock bits, the upper half of byte 17.
@@ -45,7 +32,7 @@ pub fn resynchronise(image: Image) -> Changed
         image: fresh,
         shown: Shown {
             word: 0,
-            ans: answers::number(Answer::Done),
+            ans: Answer::Done.number(),
             sent: 0,
             byte17: flags.byte17,
             byte18: flags.byte18,

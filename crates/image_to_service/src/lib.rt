@@ -13,6 +13,7 @@ mod line_part;
 mod port_part;
 mod queue_part;
 
+#[tactic(auto, unfolding(image::specs::Image::keyboard_at))]
 fn keyboard_of(image: Image) -> Port
     ensures { result ≡ keyboard_at image }
 {
@@ -26,21 +27,19 @@ fn keyboard_of(image: Image) -> Port
 }
 
 // With a new controller: no event looks at it, so an event on an image leaves the controller's numbers where they are.
+#[tactic(auto, unfolding(image::specs::Image::bare_service_of, image::specs::Image::service_of))]
 pub fn service_of(image: Image) -> Service
     ensures { result ≡ bare_service_of image }
 {
     let flags = image.flags;
-    let line = image.line;
-    let queue = image.queue;
-    let scanner = image.scanner;
     Service {
         ports: Ports {
             keyboard: keyboard_of(image),
-            scanner: port_part::port_of(scanner),
+            scanner: port_part::port_of(image.scanner),
         },
         shared: flags_part::shared_of(flags),
-        queue: queue_part::queue_of(queue),
-        line: line_part::line_of(line, flags.byte97),
+        queue: queue_part::queue_of(image.queue),
+        line: line_part::line_of(image.line, flags.byte97),
         codes: image_making::codes_of(image.input / 16),
         controller: controller::new(),
     }

@@ -1,9 +1,9 @@
 // Numbers to lines. The marks of a line are in byte 97.
-ghost use Rattle.std.specs.Prelude.{min, ◌%◌, ◌≡◌};
+ghost use Rattle.std.specs.Prelude.{◌%◌, ◌≡◌};
 ghost use Rattle.image.specs.ImageLine.{kind_at, setting_at, value_in, command_at, phase_at, marks_at, line_at};
 
 use image::{CommandImage, LineImage};
-use line::{Command, Kind, Line, Marks, Phase, Setting};
+use line::{Command, Kind, Line, Marks, Phase};
 
 // How many values a LED command has, and a rate command.
 const LED_VALUES: u8 = 8;
@@ -13,34 +13,25 @@ const RATE_VALUES: u8 = 128;
 fn kind_of(number: u8) -> Kind
     ensures { result ≡ kind_at number }
 {
-    if number == 0 {
-        return Kind::Led;
+    match number {
+        0 => Kind::Led,
+        _ => Kind::Rate,
     }
-    Kind::Rate
 }
 
-fn setting_of(known: u8, value: u8) -> Setting
+fn setting_of(known: u8, value: u8) -> Option<u8>
     ensures { result ≡ setting_at known value }
 {
-    if known == 0 {
-        return Setting::None;
-    }
-    Setting::Value(value)
+    (known != 0).then_some(value)
 }
 
 fn value_of(kind: u8, value: u8) -> u8
     ensures { result ≡ value_in kind value }
 {
-    if kind == 0 {
-        return value % LED_VALUES;
+    match kind {
+        0 => value % LED_VALUES,
+        _ => value % RATE_VALUES,
     }
-    value % RATE_VALUES
-}
-
-fn at_most(number: u8, most: u8) -> u8
-    ensures { result ≡ min number most }
-{
-    if number < most { number } else { most }
 }
 
 fn command_of(image: CommandImage) -> Command
@@ -50,21 +41,19 @@ fn command_of(image: CommandImage) -> Command
         kind: kind_of(image.kind),
         value: value_of(image.kind, image.value),
         operand: image.operand != 0,
-        sends: at_most(image.sends, 3),
-        sent: at_most(image.sent, 6),
+        sends: image.sends.min(3),
+        sent: image.sent.min(6),
     }
 }
 
 fn phase_of(image: CommandImage) -> Phase
     ensures { result ≡ phase_at image }
 {
-    if image.phase == 1 {
-        return Phase::Awaiting(command_of(image));
+    match image.phase {
+        1 => Phase::Awaiting(command_of(image)),
+        2 => Phase::Ready(command_of(image)),
+        _ => Phase::Idle(kind_of(image.kind)),
     }
-    if image.phase == 2 {
-        return Phase::Ready(command_of(image));
-    }
-    Phase::Idle(kind_of(image.kind))
 }
 
 fn marks_of(byte97: u8) -> Marks
@@ -78,14 +67,14 @@ fn marks_of(byte97: u8) -> Marks
     }
 }
 
+#[tactic(auto, unfolding(image::specs::ImageLine::line_at))]
 pub fn line_of(image: LineImage, byte97: u8) -> Line
     ensures { result ≡ line_at image byte97 }
 {
-    let command = image.command;
     let handled = image.handled;
     let rate = image.rate;
     Line {
-        phase: phase_of(command),
+        phase: phase_of(image.command),
         handled: setting_of(handled.known, handled.value % LED_VALUES),
         rate: setting_of(rate.known, rate.value % RATE_VALUES),
         marks: marks_of(byte97),

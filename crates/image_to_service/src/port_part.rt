@@ -6,6 +6,7 @@ use crate::flags_part;
 use image::PortImage;
 use port::{Held, Modifiers, Port, Sides};
 
+#[tactic(auto, unfolding(image::specs::ImagePort::sides_at))]
 fn sides_of(number: u8) -> Sides
     ensures { result ≡ sides_at number }
 {
@@ -15,6 +16,7 @@ fn sides_of(number: u8) -> Sides
     }
 }
 
+#[tactic(auto, unfolding(image::specs::ImagePort::port_at))]
 pub fn port_of(image: PortImage) -> Port
     ensures { result ≡ port_at image }
 {

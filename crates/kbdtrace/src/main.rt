@@ -3,7 +3,7 @@
 
 use std::env::{Env, FillError};
 use std::io;
-use trace_file::Traced;
+use trace_file::TraceError;
 
 // Whether anything stands behind the program's name, be it text or not.
 fn has_arguments(rt: &HostRuntime) -> bool {
@@ -16,9 +16,11 @@ fn main(rt: HostRuntime) -> io::Result<()> {
         return eprintln!(rt; "kbdtrace: takes no argument, reads a pack on standard input");
     }
     match trace_file::write_trace(&mut rt.stdin(), &mut rt.stdout()) {
-        Traced::Whole => Ok(()),
-        Traced::NotRead(error) => eprintln!(rt; "kbdtrace: cannot read standard input: {error}"),
-        Traced::NotWritten(error) => eprintln!(rt;
+        Ok(()) => Ok(()),
+        Err(TraceError::NotRead(error)) => eprintln!(rt;
+            "kbdtrace: cannot read standard input: {error}"
+        ),
+        Err(TraceError::NotWritten(error)) => eprintln!(rt;
             "kbdtrace: cannot write standard output: {error}"
         ),
     }

@@ -1,95 +1,109 @@
-// The service lent and changed in place: thin calls over the calls by value.
+// The service lent and changed in place: what each call leaves in it, and what it returns.
 #![tactic(auto)]
 
-ghost use Rattle.std.specs.Prelude.{◌≡◌};
-ghost use Rattle.report.specs.Reported.{buffer_of};
-ghost use Rattle.lent_calls.specs.Lent.{made_in, event_in, frame_in, change_in, port_in, reported_in, resynchronised_in};
+ghost use Rattle.std.specs.Prelude.{◌≡◌, OnErr};
+ghost use Rattle.state.specs.State.{making_refusal_number};
+ghost use Rattle.report.specs.Reported.{report_refusal_number, told_by, buffer_of};
+ghost use Rattle.lent_calls.specs.Lent.{number_told, made_in, answered_by, event_in, frame_in, change_in, port_in, tells_of, reported_in, resynchronised_in};
 
+use answers::Answer;
 use controller::PortEvent;
-use events::Event;
-use lent_calls::{Answered, PortAnswered, Stepped, Tried};
-use state::Service;
+use events::{Event, Outcome};
+use lent_calls::{Answered, PortAnswered, Stepped};
+use report::ReportRefusal;
+use state::{MakingRefusal, Service};
 use translation::CodeSet;
 
-// The service newly made on set 1 with four lock bits, or refusal 1.
-pub fn make(service: &mut Service, bits: u8) -> u8
-    ensures { (service.new ≡ (made_in CodeSet.One service.old bits).service)
-        × (result ≡ (made_in CodeSet.One service.old bits).refusal) }
+// What an outcome leaves takes the place of the service; its answer and its count are told.
+fn stored(service: &mut Service, outcome: Outcome) -> Answered
+    ensures { (service.new ≡ outcome.service) × (result ≡ answered_by outcome) }
 {
-    let tried = lent_making::make(*service, bits);
-    *service = tried.service;
-    tried.refusal
+    *service = outcome.service;
+    Answered {
+        answer: outcome.answer,
+        sent: outcome.sent,
+    }
 }
 
-// The same on set 2.
-pub fn make_set_two(service: &mut Service, bits: u8) -> u8
-    ensures { (service.new ≡ (made_in CodeSet.Two service.old bits).service)
-        × (result ≡ (made_in CodeSet.Two service.old bits).refusal) }
+// The service newly made on a set with four lock bits; a refusal leaves it as it was.
+#[tactic(auto, unfolding(lent_calls::specs::Lent::made_in))]
+pub fn make(service: &mut Service, set: CodeSet, bits: u8) -> Result<(), MakingRefusal>
+    ensures value { (service.new ≡ (made_in set service.old bits).service)
+        × (number_told making_refusal_number result ≡ (made_in set service.old bits).refusal) }
+    ensures refused { OnErr result (service.new ≡ service.old) }
 {
-    let tried = lent_making::make_set_two(*service, bits);
-    *service = tried.service;
-    tried.refusal
+    *service = service_making::make(set, bits)?;
+    Ok(())
 }
 
 // One event.
+#[tactic(auto, unfolding(lent_calls::specs::Lent::event_in))]
 pub fn event(service: &mut Service, event: Event) -> Answered
     ensures { (service.new ≡ (event_in service.old event).service)
         × (result ≡ (event_in service.old event).answered) }
 {
-    let stepped = lent_by_value::event(*service, event);
-    *service = stepped.service;
-    stepped.answered
+    let outcome = service::step(*service, event);
+    stored(service, outcome)
 }
 
 // One frame.
+#[tactic(auto, unfolding(lent_calls::specs::Lent::frame_in))]
 pub fn frame(service: &mut Service, frame: u16) -> Answered
     ensures { (service.new ≡ (frame_in service.old frame).service)
         × (result ≡ (frame_in service.old frame).answered) }
 {
-    let stepped = lent_by_value::frame(*service, frame);
-    *service = stepped.service;
-    stepped.answered
+    let outcome = service::frame(*service, frame);
+    stored(service, outcome)
 }
 
 // A change of set, also to the same one.
+#[tactic(auto, unfolding(lent_calls::specs::Lent::change_in))]
 pub fn change(service: &mut Service, set: CodeSet) -> Answered
     ensures { (service.new ≡ (change_in service.old set).service)
         × (result ≡ (change_in service.old set).answered) }
 {
-    let stepped = lent_making::change(*service, set);
-    *service = stepped.service;
-    stepped.answered
+    let outcome = service_making::change(*service, set);
+    stored(service, outcome)
 }
 
 // One port event: a read of 60 feeds the key that it gives.
+#[tactic(auto, unfolding(lent_calls::specs::Lent::port_in))]
 pub fn port_event(service: &mut Service, event: PortEvent) -> PortAnswered
     ensures { (service.new ≡ (port_in service.old event).service)
         × (result ≡ (port_in service.old event).answered) }
 {
-    let stepped = lent_by_value::port_event(*service, event);
-    *service = stepped.service;
-    stepped.answered
+    let step = service_controller::port_event(*service, event);
+    PortAnswered {
+        answered: stored(service, step.outcome),
+        response: step.response,
+    }
 }
 
-// One event, and its report at the start of the buffer; or refusal 9, and nothing is run or written.
-pub fn report(service: &mut Service, event: Event, buffer: &mut [u8]) -> u8
-    ensures { (service.new ≡ (reported_in service.old event buffer.old).service)
-        × (result ≡ (reported_in service.old event buffer.old).refusal)
-        × (buffer.new ≡ buffer_of service.old event buffer.old) }
+// One event, and its report at the start of the buffer; or the buffer is too short, and nothing is run or written. A refusal leaves the service as it
+// was.
+#[tactic(auto, unfolding(lent_calls::specs::Lent::reported_in))]
+pub fn report(service: &mut Service, event: Event, buffer: &mut [u8]) -> Result<(), ReportRefusal>
+    ensures value { (service.new ≡ (reported_in service.old event buffer.old).service)
+        × (number_told report_refusal_number result
+        ≡ (reported_in service.old event buffer.old).refusal) }
+    ensures refused { OnErr result (service.new ≡ service.old) }
+    ensures buffer_after { buffer.new ≡ buffer_of service.old event buffer.old }
 {
-    let tried = lent_by_value::report(*service, event, buffer);
-    *service = tried.service;
-    tried.refusal
+    *service = report_call::report_event(*service, event, buffer)?;
+    Ok(())
 }
 
 // As if the all-up run at both ports, E and R were fed; answered as this R is.
+#[tactic(auto, unfolding(lent_calls::specs::Lent::resynchronised_in))]
 pub fn resynchronise(service: &mut Service) -> Answered
     ensures { (service.new ≡ (resynchronised_in service.old).service)
         × (result ≡ (resynchronised_in service.old).answered) }
 {
-    let stepped = lent_making::resynchronise(*service);
-    *service = stepped.service;
-    stepped.answered
+    *service = service_making::resynchronise(*service);
+    Answered {
+        answer: Answer::Done,
+        sent: 0,
+    }
 }
 
 // For whoever holds the service by value: a copy of it is lent, and handed back as the call left it.
@@ -104,13 +118,16 @@ pub fn event_on_copy(service: Service, event: Event) -> Stepped
     }
 }
 
-pub fn report_on_copy(service: Service, event: Event, buffer: &mut [u8]) -> Tried
-    ensures { (result ≡ reported_in service event buffer.old) × (buffer.new ≡ buffer_of service event buffer.old) }
+#[tactic(auto, unfolding(lent_calls::specs::Lent::reported_in))]
+pub fn report_on_copy(
+    service: Service,
+    event: Event,
+    buffer: &mut [u8],
+) -> Result<Service, ReportRefusal>
+    ensures value { tells_of (told_by service result) ≡ reported_in service event buffer.old }
+    ensures buffer_after { buffer.new ≡ buffer_of service event buffer.old }
 {
     let mut copy = service;
-    let refusal = crate::report(&mut copy, event, buffer);
-    Tried {
-        service: copy,
-        refusal,
-    }
+    crate::report(&mut copy, event, buffer)?;
+    Ok(copy)
 }

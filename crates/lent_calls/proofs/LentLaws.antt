@@ -20,11 +20,9 @@ use Rattle.events.specs.Sets.{change_of}
 use Rattle.events.specs.Controller.{on_response, port_step_of}
 use Rattle.events.proofs.RefusedCalls.{refused_answer}
 use Rattle.events.proofs.Controller.{controller_apart, refused_port_events}
-use Rattle.report.specs.declared.Reported.{Reported}
-use Rattle.report.specs.Reported.{reported_of, too_short}
+use Rattle.report.specs.Reported.{Reported, reported_of, too_short}
 use Rattle.report.proofs.BufferLaws.{short_refused}
-use Rattle.lent_calls.specs.declared.PortStepped.{PortStepped}
-use Rattle.lent_calls.specs.Lent.{made_in, answered_by, event_in, frame_in, change_in, port_in, reported_in}
+use Rattle.lent_calls.specs.Lent.{PortStepped, made_in, answered_by, event_in, frame_in, change_in, port_in, reported_in}
 use Rattle.lent_calls.specs.LentLaws.{Makes, RefusedLeaves, Frames, Changes, PortEvents, ShortUntouched, RefusedReportLeaves}
 
 pub makes : Makes

@@ -18,8 +18,7 @@ use Rattle.events.specs.Resynchronised.{all_up, set_in, standing_locks, remade}
 use Rattle.events.proofs.Lists.{after_append}
 use Rattle.lists.specs.Items.{Item, runs, reports, receives, changes, at_port, Seen, step_item, next_item, after_items, seen_items}
 use Rattle.lists.proofs.Demand3.{demand_3}
-use Rattle.lent_calls.specs.declared.Tried.{Tried}
-use Rattle.lent_calls.specs.Lent.{event_in, frame_in, change_in, port_in, reported_in, resynchronised_in}
+use Rattle.lent_calls.specs.Lent.{Tried, event_in, frame_in, change_in, port_in, reported_in, resynchronised_in}
 use Rattle.lent_calls.specs.LentLists.{Called, call_in, after_calls, seen_calls, Follows, LentCallsFollow, ResynchronisedAsFed, made, LentCallsForget}
 use Rattle.lent_calls.proofs.LentLaws.{makes}
 

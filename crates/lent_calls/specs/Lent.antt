@@ -1,14 +1,13 @@
 -- What a lent call leaves in the service, and what it returns: the core's outcome, in two parts.
 -- Assumes nothing.
-use Rattle.std.specs.Prelude.{ℕ, List, [], eqb}
-use Rattle.bits.specs.Choice.{when◌then◌else◌}
+use Rattle.std.specs.Prelude.{ℕ, List, [], Result, Ok, Err}
 use Rattle.translation.specs.declared.CodeSet.{CodeSet}
 use Rattle.controller.specs.declared.PortEvent.{PortEvent}
 use Rattle.state.specs.declared.Service.{Service}
 use Rattle.events.specs.declared.Event.{Event}
 use Rattle.events.specs.declared.Outcome.{Outcome}
-use Rattle.state.specs.declared.Made.{Made}
-use Rattle.state.specs.State.{make_of}
+use Rattle.state.specs.declared.MakingRefusal.{MakingRefusal}
+use Rattle.state.specs.State.{making_refusal_number, make_of}
 use Rattle.events.specs.Step.{step_of}
 use Rattle.events.specs.Frames.{frame_step_of}
 use Rattle.events.specs.Sets.{change_of}
@@ -16,18 +15,30 @@ use Rattle.events.specs.Controller.{port_step_of}
 use Rattle.events.specs.Run.{after}
 use Rattle.events.specs.Resynchronised.{resynchronisation, set_in}
 use Rattle.answers.specs.declared.Answer.TheVariants.{Done}
-use Rattle.report.specs.declared.Reported.{Reported}
-use Rattle.report.specs.Reported.{reported_of}
+use Rattle.report.specs.Reported.{Reported, reported_of}
 use Rattle.lent_calls.specs.declared.Answered.{Answered}
 use Rattle.lent_calls.specs.declared.Stepped.{Stepped}
-use Rattle.lent_calls.specs.declared.PortStepped.{PortStepped}
-use Rattle.lent_calls.specs.declared.Tried.{Tried}
+use Rattle.lent_calls.specs.declared.PortAnswered.{PortAnswered}
+
+-- what a port event leaves and answers
+pub record PortStepped : Type 0 where
+  pub service : Service
+  pub answered : PortAnswered
+
+-- what a call that may be refused leaves: refusal 0, or the number and the service as it was
+pub record Tried : Type 0 where
+  pub service : Service
+  pub refusal : ℕ
+
+-- the number of the refusal in what such a call returns, 0 for none
+abbrev pub number_told : {A E : Type 0} → (E → ℕ) → Result A E → ℕ
+number_told number (Ok done) = 0
+number_told number (Err refusal) = number refusal
 
 -- a service that was made replaces the one lent; a refusal leaves that one as it was
-abbrev pub tried_of : Service → Made → Tried
-tried_of service made =
-    when eqb made.refusal 0 then record { service = made.service; refusal = 0 }
-    else record { service = service; refusal = made.refusal }
+abbrev pub tried_of : Service → Result Service MakingRefusal → Tried
+tried_of service (Ok made) = record { service = made; refusal = 0 }
+tried_of service (Err refusal) = record { service = service; refusal = making_refusal_number refusal }
 
 unfoldable pub made_in : CodeSet → Service → ℕ → Tried
 made_in set service bits = tried_of service (make_of set bits)

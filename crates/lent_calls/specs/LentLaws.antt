@@ -1,8 +1,7 @@
 -- What holds of the lent calls: a refusal leaves the service as it was, and 9 the buffer too; a change of set leaves all but the codes. LentLaws.antt of proofs/ proves each sentence.
 -- Assumes nothing.
-use Rattle.std.specs.Prelude.{ℕ, ◌<◌, ◌≤◌, ◌≡◌, List, length}
+use Rattle.std.specs.Prelude.{ℕ, ◌<◌, ◌≤◌, ◌≡◌, List, length, Ok, Err}
 use Rattle.frame.specs.declared.Fault.{Fault}
-use Rattle.frame.specs.declared.Reading.TheVariants as reading
 use Rattle.frame.specs.Frame.{read_frame}
 use Rattle.line.specs.State.{sent_of}
 use Rattle.translation.specs.declared.CodeSet.{CodeSet}
@@ -38,9 +37,9 @@ RefusedLeaves =
 
 -- 11 to 13: a frame that is refused; any other does what the event of its byte does
 pub record Frames : Type 0 where
-  pub refused : (service : Service) (frame : ℕ) (fault : Fault) → read_frame frame ≡ reading.Refused fault →
+  pub refused : (service : Service) (frame : ℕ) (fault : Fault) → read_frame frame ≡ Err fault →
       frame_in service frame ≡ record { service = service; answered = record { answer = Refused (Frame fault); sent = sent_of service.line } }
-  pub accepted : (service : Service) (frame byte : ℕ) → read_frame frame ≡ reading.Byte byte → frame_in service frame ≡ event_in service (Key byte)
+  pub accepted : (service : Service) (frame byte : ℕ) → read_frame frame ≡ Ok byte → frame_in service frame ≡ event_in service (Key byte)
 
 -- a change of set leaves all but the codes, which begin unmarked, and is never refused
 abbrev pub Changes : Type 0

@@ -1,8 +1,10 @@
 -- The cases of each call, once for every law: what holds of each of its outcomes holds of the call.
 -- Assumes nothing.
+use Rattle.std.specs.Prelude.{Option, None, Some}
 use Prim.Native.Nat.{ℕ, ◌<◌, ◌≤◌}
 use mathlib.Core.Bool.{true, false}
-use mathlib.Core.Path.{◌≡◌, refl}
+use mathlib.Core.Path.{◌≡◌, refl, ap}
+use Rattle.std.proofs.lemmas.Option.{same_Some}
 use lib.Dec.{ltb}
 use borrow.Author.Tests.{ltb-true, ltb-false}
 use Rattle.bits.proofs.Choice.{by_test}
@@ -16,8 +18,6 @@ use Rattle.line.specs.declared.Command.{Command}
 use Rattle.line.specs.declared.Phase.{Phase}
 use Rattle.line.specs.declared.Phase.TheVariants.{Idle, Awaiting, Ready}
 use Rattle.line.specs.declared.Line.{Line}
-use Rattle.line.specs.declared.Next.{Next}
-use Rattle.line.specs.declared.Next.TheVariants.{Nothing, Start}
 use Rattle.line.specs.declared.Answer.{Answer}
 use Rattle.line.specs.declared.Answer.TheVariants.{Quiet, Taken, Ignored, GivenUp}
 use Rattle.line.specs.declared.Outcome.{Outcome}
@@ -36,15 +36,22 @@ unfolding other_of is_led_of
 after_rate Led t = not_both refl t
 after_rate Rate t = refl
 
+-- commands to start that are equal have one kind and one operand
+pub same_start : {kind other : Kind} {value operand : ℕ} →
+    ◌≡◌ {A = Option (Kind × ℕ)} (Some (kind, value)) (Some (other, operand)) → (kind ≡ other) × (value ≡ operand)
+same_start {kind} {other} {value} {operand} e =
+    let same = same_Some {A = Kind × ℕ} (kind, value) (other, operand) e in
+    (ap (λ (start : Kind × ℕ). start.0) same, ap (λ (start : Kind × ℕ). start.1) same)
+
 module _ (P : Outcome → Type 0) (line : Line) where
   -- ---- a poll
-  next_cases : (next : Next) → P (unchanged_of line Quiet) → ((kind : Kind) (value : ℕ) → next ≡ Start kind value → P (start_of line kind value)) → P (start_next_of line next)
+  next_cases : (next : Option (Kind × ℕ)) → P (unchanged_of line Quiet) → ((kind : Kind) (value : ℕ) → next ≡ Some (kind, value) → P (start_of line kind value)) → P (start_next_of line next)
   unfolding start_next_of
-  next_cases Nothing quiet start = quiet
-  next_cases (Start kind value) quiet start = start kind value refl
+  next_cases None quiet start = quiet
+  next_cases (Some (kind, value)) quiet start = start kind value refl
 
   poll_in_lem : (led : ℕ) (phase : Phase) → P (unchanged_of line Quiet) →
-      ((turn kind : Kind) (value : ℕ) → phase ≡ Idle turn → next_of line turn led ≡ Start kind value → P (start_of line kind value)) →
+      ((turn kind : Kind) (value : ℕ) → phase ≡ Idle turn → next_of line turn led ≡ Some (kind, value) → P (start_of line kind value)) →
       ((command : Command) → phase ≡ Ready command → P (send_of line command)) → P (poll_in line led phase)
   unfolding poll_in idle_poll_of
   poll_in_lem led (Idle turn) quiet start ready = next_cases (next_of line turn led) quiet (λ kind value. start turn kind value refl)
@@ -52,7 +59,7 @@ module _ (P : Outcome → Type 0) (line : Line) where
   poll_in_lem led (Ready command) quiet start ready = ready command refl
 
   pub poll_cases : (led : ℕ) → P (unchanged_of line Quiet) →
-      ((turn kind : Kind) (value : ℕ) → line.phase ≡ Idle turn → next_of line turn led ≡ Start kind value → P (start_of line kind value)) →
+      ((turn kind : Kind) (value : ℕ) → line.phase ≡ Idle turn → next_of line turn led ≡ Some (kind, value) → P (start_of line kind value)) →
       ((command : Command) → line.phase ≡ Ready command → P (send_of line command)) → P (poll_of line led)
   unfolding poll_of
   poll_cases led = poll_in_lem led line.phase

@@ -1,5 +1,6 @@
 -- The operand that a command sends is the value fixed at its start.
 -- Assumes nothing.
+use Rattle.std.specs.Prelude.{None, Some}
 use Prim.Native.Nat.{ℕ}
 use mathlib.Core.Path.{◌≡◌, refl}
 use mathlib.Core.Logic.{⊎_elim}
@@ -13,9 +14,7 @@ use Rattle.line.specs.declared.Kind.{Kind}
 use Rattle.line.specs.declared.Kind.TheVariants.{Led, Rate}
 use Rattle.line.specs.declared.Phase.{Phase}
 use Rattle.line.specs.declared.Phase.TheVariants.{Idle, Awaiting, Ready}
-use Rattle.line.specs.declared.Setting.TheVariants.{None}
 use Rattle.line.specs.declared.Line.{Line}
-use Rattle.line.specs.declared.Next.TheVariants.{Start}
 use Rattle.line.specs.declared.Outcome.{Outcome}
 use Rattle.line.proofs.Cases.{poll_cases, acknowledge_cases, failed_cases}
 
@@ -68,7 +67,7 @@ pub led_starts : LedStarts
 unfolding next_of unhandled_of in_turn_of first_of waiting_of when◌then◌else◌
 led_starts line turn led due first = rw due (⊎_elim (λ now. rw now refl) (λ none. rw none (alone turn)) first)
   where
-    alone : (turn : Kind) → in_turn_of turn (Start Led led) (waiting_of None) ≡ Start Led led
+    alone : (turn : Kind) → in_turn_of turn (Some (Led, led)) (waiting_of None) ≡ Some (Led, led)
     alone Led = refl
     alone Rate = refl
 

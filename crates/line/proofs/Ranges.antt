@@ -1,5 +1,6 @@
 -- No input takes a number of the line out of its range.
 -- Assumes nothing.
+use Rattle.std.specs.Prelude.{Option, None, Some}
 use Prim.Native.Nat.{ℕ, ◌≤◌, ◌<◌}
 use native.Mathlib.Omega.{arith}
 use mathlib.Core.Bool.{true, true≢false}
@@ -16,11 +17,7 @@ use Rattle.line.specs.declared.Kind.{Kind}
 use Rattle.line.specs.declared.Kind.TheVariants.{Led, Rate}
 use Rattle.line.specs.declared.Command.{Command}
 use Rattle.line.specs.declared.Phase.TheVariants.{Awaiting}
-use Rattle.line.specs.declared.Setting.{Setting}
-use Rattle.line.specs.declared.Setting.TheVariants.{None, Value}
 use Rattle.line.specs.declared.Line.{Line}
-use Rattle.line.specs.declared.Next.{Next}
-use Rattle.line.specs.declared.Next.TheVariants.{Nothing, Start}
 use Rattle.line.specs.declared.Outcome.{Outcome}
 use Rattle.line.proofs.Cases.{poll_cases, acknowledge_cases, failed_cases}
 
@@ -43,21 +40,21 @@ send_in line command h v =
 
 -- ---- the start of a command
 
-abbrev NextInRange : Next → Type 0
-NextInRange Nothing = Unit {0}
-NextInRange (Start kind value) = value < values_of kind
+abbrev NextInRange : Option (Kind × ℕ) → Type 0
+NextInRange None = Unit {0}
+NextInRange (Some (kind, value)) = value < values_of kind
 
-waiting_in : (rate : Setting) → SettingBelow rate_values rate → NextInRange (waiting_of rate)
+waiting_in : (rate : Option ℕ) → SettingBelow rate_values rate → NextInRange (waiting_of rate)
 unfolding waiting_of
 waiting_in None h = tt
-waiting_in (Value rate) h = h
+waiting_in (Some rate) h = h
 
-first_in : (first second : Next) → NextInRange first → NextInRange second → NextInRange (first_of first second)
+first_in : (first second : Option (Kind × ℕ)) → NextInRange first → NextInRange second → NextInRange (first_of first second)
 unfolding first_of
-first_in Nothing second f s = s
-first_in (Start kind value) second f s = f
+first_in None second f s = s
+first_in (Some (kind, value)) second f s = f
 
-in_turn_in : (turn : Kind) (led rate : Next) → NextInRange led → NextInRange rate → NextInRange (in_turn_of turn led rate)
+in_turn_in : (turn : Kind) (led rate : Option (Kind × ℕ)) → NextInRange led → NextInRange rate → NextInRange (in_turn_of turn led rate)
 unfolding in_turn_of
 in_turn_in Led led rate l r = search (first_in, l, r)
 in_turn_in Rate led rate l r = search (first_in, l, r)
@@ -66,7 +63,7 @@ next_in : (line : Line) (turn : Kind) (led : ℕ) → LineInRange line → led <
 unfolding next_of unhandled_of
 next_in line turn led h l = in_turn_in turn _ _ (either NextInRange _ _ _ tt l) (waiting_in line.rate h.rate)
 
-left_in_lem : (rate : Setting) (kind : Kind) → SettingBelow rate_values rate → SettingBelow rate_values (rate_left_of rate kind)
+left_in_lem : (rate : Option ℕ) (kind : Kind) → SettingBelow rate_values rate → SettingBelow rate_values (rate_left_of rate kind)
 unfolding rate_left_of
 left_in_lem rate Led h = h
 left_in_lem rate Rate h = tt
@@ -109,7 +106,7 @@ module _ (line : Line) (h : LineInRange line) where
   unfolding unchanged_of
   poll_in_lem led l =
       poll_cases (λ (o : Outcome). LineInRange o.line) line led h
-      (λ turn kind value e n. let found : NextInRange (Start kind value) = rw n at (next_in line turn led h l) in start_in line kind value h found)
+      (λ turn kind value e n. let found : NextInRange (Some (kind, value)) = rw n at (next_in line turn led h l) in start_in line kind value h found)
       (λ command e. let k : CommandInRange command = rw e at h.phase in send_in line command h k.value)
 
   acknowledge_in : LineInRange (acknowledge_of line).line

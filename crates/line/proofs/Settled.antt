@@ -1,10 +1,11 @@
 -- A LED value that was given up is not started again while the locks stand.
 -- Assumes nothing.
+use Rattle.std.specs.Prelude.{Option, None, Some}
 use Prim.Native.Nat.{ℕ, ◌≤◌}
 use native.Mathlib.Omega.{arith}
 use mathlib.Core.Bool.{false}
 use mathlib.Core.List.{[], ◌∷◌}
-use mathlib.Core.Path.{◌≡◌, refl}
+use mathlib.Core.Path.{◌≡◌, refl, sym}
 use borrow.Author.Tests.{le-ltb, eq-eqb}
 use Rattle.bits.specs.Choice.{when◌then◌else◌}
 use Rattle.line.specs.State.{wait_rate_of, is_led_of, led_runs_in, led_runs_of, is_value_of, unchanged_of}
@@ -16,13 +17,10 @@ use Rattle.line.specs.declared.Kind.{Kind}
 use Rattle.line.specs.declared.Kind.TheVariants.{Led, Rate}
 use Rattle.line.specs.declared.Command.{Command}
 use Rattle.line.specs.declared.Phase.TheVariants.{Awaiting}
-use Rattle.line.specs.declared.Setting.{Setting}
-use Rattle.line.specs.declared.Setting.TheVariants.{None, Value}
 use Rattle.line.specs.declared.Line.{Line}
-use Rattle.line.specs.declared.Next.TheVariants.{Nothing, Start}
 use Rattle.line.specs.declared.Answer.TheVariants.{Send}
 use Rattle.line.specs.declared.Outcome.{Outcome}
-use Rattle.line.proofs.Cases.{poll_cases, acknowledge_cases, failed_cases}
+use Rattle.line.proofs.Cases.{same_start, poll_cases, acknowledge_cases, failed_cases}
 
 -- ---- giving up settles the value
 
@@ -39,19 +37,19 @@ gives_up line command e k b = (gives_up_at line (mark_resend_of line) command e 
 -- ---- a settled value stays settled
 
 -- with its value handled, only a waiting rate starts
-waiting_rate : (rate : Setting) (kind : Kind) (value : ℕ) → waiting_of rate ≡ Start kind value → kind ≡ Rate
+waiting_rate : (rate : Option ℕ) (kind : Kind) (value : ℕ) → waiting_of rate ≡ Some (kind, value) → kind ≡ Rate
 unfolding waiting_of
 waiting_rate None kind value e = cc
-waiting_rate (Value known) kind value e = cc
+waiting_rate (Some known) kind value e = sym (same_start e).0
 
-alone : (turn : Kind) (rate : Setting) (kind : Kind) (value : ℕ) → in_turn_of turn Nothing (waiting_of rate) ≡ Start kind value → kind ≡ Rate
+alone : (turn : Kind) (rate : Option ℕ) (kind : Kind) (value : ℕ) → in_turn_of turn None (waiting_of rate) ≡ Some (kind, value) → kind ≡ Rate
 unfolding in_turn_of first_of waiting_of
 alone Led rate kind value e = waiting_rate rate kind value e
 alone Rate None kind value e = cc
-alone Rate (Value known) kind value e = cc
+alone Rate (Some known) kind value e = sym (same_start e).0
 
-next_rate : (value : ℕ) (line : Line) → line.handled ≡ Value value → (turn kind : Kind) (operand : ℕ) →
-    next_of line turn value ≡ Start kind operand → kind ≡ Rate
+next_rate : (value : ℕ) (line : Line) → line.handled ≡ Some value → (turn kind : Kind) (operand : ℕ) →
+    next_of line turn value ≡ Some (kind, operand) → kind ≡ Rate
 unfolding next_of unhandled_of is_value_of when◌then◌else◌
 next_rate value line h turn kind operand e =
     alone turn line.rate kind operand (simp (h, eq-eqb value value refl) at e)

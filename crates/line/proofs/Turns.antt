@@ -1,5 +1,6 @@
 -- A due LED value and a waiting rate come to their turn, behind 11 bytes at most.
 -- Assumes nothing.
+use Rattle.std.specs.Prelude.{Option, None, Some}
 use Prim.Native.Nat.{ℕ, ◌+◌, ◌-◌, ◌≤◌}
 use native.Mathlib.Omega.{arith}
 use mathlib.Core.Bool.{Bool, true, false}
@@ -17,14 +18,10 @@ use Rattle.line.specs.declared.Kind.TheVariants.{Led, Rate}
 use Rattle.line.specs.declared.Command.{Command}
 use Rattle.line.specs.declared.Phase.{Phase}
 use Rattle.line.specs.declared.Phase.TheVariants.{Idle, Awaiting, Ready}
-use Rattle.line.specs.declared.Setting.{Setting}
-use Rattle.line.specs.declared.Setting.TheVariants.{None, Value}
 use Rattle.line.specs.declared.Line.{Line}
-use Rattle.line.specs.declared.Next.{Next}
-use Rattle.line.specs.declared.Next.TheVariants.{Nothing, Start}
 use Rattle.line.specs.declared.Answer.TheVariants.{Quiet}
 use Rattle.line.specs.declared.Outcome.{Outcome}
-use Rattle.line.proofs.Cases.{poll_cases, acknowledge_cases, failed_cases}
+use Rattle.line.proofs.Cases.{same_start, poll_cases, acknowledge_cases, failed_cases}
 use Rattle.line.proofs.Within.{one_more, sent_below}
 
 -- ---- 1. all but the start of a command: a send takes one of the bytes that are left, nothing adds any, and what is wanted stays so
@@ -47,9 +44,9 @@ marked_done line command =
     either (Alike line) (is_led_of command.kind) _ _ (record { handled = refl; rate = refl }) same
 
 -- nothing that a reply makes of a command changes the LED value started last
-stays_started : (line : Line) (handled : Setting) (command : Command) → line.phase ≡ Awaiting command → handled ≡ line.handled →
+stays_started : (line : Line) (handled : Option ℕ) (command : Command) → line.phase ≡ Awaiting command → handled ≡ line.handled →
     started_in handled (Awaiting command) ≡ started_of line
-stays_started line handled command e h = ap (λ (s : Setting). started_in s (Awaiting command)) h ∙ ap (started_in line.handled) (sym e)
+stays_started line handled command e h = ap (λ (s : Option ℕ). started_in s (Awaiting command)) h ∙ ap (started_in line.handled) (sym e)
 
 stays_turn : (line : Line) (command : Command) → line.phase ≡ Awaiting command → other_of command.kind ≡ turn_in line.phase
 stays_turn line command e = sym (ap turn_in e)
@@ -153,49 +150,49 @@ eleven_ahead kind line w h = omega (arith, five_left line.phase w h, six_in_turn
 -- ---- 3. which command starts, of a LED value that is due or not and a rate that waits or not
 
 -- a LED command has the value of its poll
-led_operand : (turn : Kind) (handled rate : Setting) (led value : ℕ) → in_turn_of turn (unhandled_of handled led) (waiting_of rate) ≡ Start Led value → value ≡ led
+led_operand : (turn : Kind) (handled rate : Option ℕ) (led value : ℕ) → in_turn_of turn (unhandled_of handled led) (waiting_of rate) ≡ Some (Led, value) → value ≡ led
 unfolding unhandled_of in_turn_of first_of waiting_of
 led_operand turn handled rate led value =
-    either (λ (n : Next). in_turn_of turn n (waiting_of rate) ≡ Start Led value → value ≡ led) (is_value_of handled led) _ _ (alone turn rate) (there turn rate)
+    either (λ (n : Option (Kind × ℕ)). in_turn_of turn n (waiting_of rate) ≡ Some (Led, value) → value ≡ led) (is_value_of handled led) _ _ (alone turn rate) (there turn rate)
   where
-    alone : (turn : Kind) (rate : Setting) → in_turn_of turn Nothing (waiting_of rate) ≡ Start Led value → value ≡ led
+    alone : (turn : Kind) (rate : Option ℕ) → in_turn_of turn None (waiting_of rate) ≡ Some (Led, value) → value ≡ led
     alone Led None e = cc
-    alone Led (Value r) e = cc
+    alone Led (Some r) e = let z = (same_start e).0 in cc
     alone Rate None e = cc
-    alone Rate (Value r) e = cc
+    alone Rate (Some r) e = let z = (same_start e).0 in cc
 
-    there : (turn : Kind) (rate : Setting) → in_turn_of turn (Start Led led) (waiting_of rate) ≡ Start Led value → value ≡ led
-    there Led rate e = cc
-    there Rate None e = cc
-    there Rate (Value r) e = cc
+    there : (turn : Kind) (rate : Option ℕ) → in_turn_of turn (Some (Led, led)) (waiting_of rate) ≡ Some (Led, value) → value ≡ led
+    there Led rate e = sym (same_start e).1
+    there Rate None e = sym (same_start e).1
+    there Rate (Some r) e = let z = (same_start e).0 in cc
 
 pub led_value_now : LedValueNow
 unfolding next_of
 led_value_now line turn led value e = led_operand turn line.handled line.rate led value e
 
 -- a rate's command has the rate that waits
-rate_operand : (turn : Kind) (handled : Setting) (led rate value : ℕ) → in_turn_of turn (unhandled_of handled led) (Start Rate rate) ≡ Start Rate value → value ≡ rate
+rate_operand : (turn : Kind) (handled : Option ℕ) (led rate value : ℕ) → in_turn_of turn (unhandled_of handled led) (Some (Rate, rate)) ≡ Some (Rate, value) → value ≡ rate
 unfolding unhandled_of in_turn_of first_of
 rate_operand turn handled led rate value =
-    either (λ (n : Next). in_turn_of turn n (Start Rate rate) ≡ Start Rate value → value ≡ rate) (is_value_of handled led) _ _ (alone turn) (there turn)
+    either (λ (n : Option (Kind × ℕ)). in_turn_of turn n (Some (Rate, rate)) ≡ Some (Rate, value) → value ≡ rate) (is_value_of handled led) _ _ (alone turn) (there turn)
   where
-    alone : (turn : Kind) → in_turn_of turn Nothing (Start Rate rate) ≡ Start Rate value → value ≡ rate
-    alone Led e = cc
-    alone Rate e = cc
+    alone : (turn : Kind) → in_turn_of turn None (Some (Rate, rate)) ≡ Some (Rate, value) → value ≡ rate
+    alone Led e = sym (same_start e).1
+    alone Rate e = sym (same_start e).1
 
-    there : (turn : Kind) → in_turn_of turn (Start Led led) (Start Rate rate) ≡ Start Rate value → value ≡ rate
-    there Led e = cc
-    there Rate e = cc
+    there : (turn : Kind) → in_turn_of turn (Some (Led, led)) (Some (Rate, rate)) ≡ Some (Rate, value) → value ≡ rate
+    there Led e = let z = (same_start e).0 in cc
+    there Rate e = sym (same_start e).1
 
 -- the other goes first only in its turn
-before_rate : (turn : Kind) (next : Next) (rate value : ℕ) → in_turn_of turn next (Start Rate rate) ≡ Start Led value → turn ≡ Led
+before_rate : (turn : Kind) (next : Option (Kind × ℕ)) (rate value : ℕ) → in_turn_of turn next (Some (Rate, rate)) ≡ Some (Led, value) → turn ≡ Led
 unfolding in_turn_of first_of
 before_rate Led next rate value e = refl
-before_rate Rate next rate value e = cc
+before_rate Rate next rate value e = (same_start e).0
 
-before_led : (turn : Kind) (led : ℕ) (next : Next) (value : ℕ) → in_turn_of turn (Start Led led) next ≡ Start Rate value → turn ≡ Rate
+before_led : (turn : Kind) (led : ℕ) (next : Option (Kind × ℕ)) (value : ℕ) → in_turn_of turn (Some (Led, led)) next ≡ Some (Rate, value) → turn ≡ Rate
 unfolding in_turn_of first_of
-before_led Led led next value e = cc
+before_led Led led next value e = (same_start e).0
 before_led Rate led next value e = refl
 
 -- ---- 4. it comes to its turn
@@ -246,8 +243,8 @@ module _ (line : Line) (turn : Kind) (value : ℕ) (idle : line.phase ≡ Idle t
   unfolding start_of send_of due_of first_byte_of when◌then◌else◌
   rate_not_led f = let z : ◌≡◌ {A = ℕ} 0xF3 0xED = cc f.answer in omega arith
 
-start_for_rate : (line : Line) (rate led : ℕ) (turn started : Kind) (value : ℕ) → line.phase ≡ Idle turn → line.rate ≡ Value rate →
-    next_of line turn led ≡ Start started value → AtPoll Rate rate line (start_of line started value)
+start_for_rate : (line : Line) (rate led : ℕ) (turn started : Kind) (value : ℕ) → line.phase ≡ Idle turn → line.rate ≡ Some rate →
+    next_of line turn led ≡ Some (started, value) → AtPoll Rate rate line (start_of line started value)
 unfolding next_of waiting_of start_of send_of rate_left_of
 start_for_rate line rate led turn Led value idle w n =
     stays w (led_not_rate line turn value idle) (led_before line turn value idle (before_rate turn (unhandled_of line.handled led) rate value (rw w at n)))
@@ -255,14 +252,14 @@ start_for_rate line rate led turn Rate value idle w n =
     begins (ap (start_of line Rate) (rate_operand turn line.handled led rate value (rw w at n)))
 
 start_for_led : (line : Line) (led : ℕ) (turn started : Kind) (value : ℕ) → line.phase ≡ Idle turn → is_value_of line.handled led ≡ false →
-    next_of line turn led ≡ Start started value → AtPoll Led led line (start_of line started value)
+    next_of line turn led ≡ Some (started, value) → AtPoll Led led line (start_of line started value)
 unfolding next_of unhandled_of start_of send_of counted_of is_led_of when◌then◌else◌
 start_for_led line led turn Led value idle w n = begins (ap (start_of line Led) (led_value_now line turn led value n))
 start_for_led line led turn Rate value idle w n =
     stays w (rate_not_led line turn value idle) (rate_before line turn value idle (before_led turn led (waiting_of line.rate) value (rw w at n)))
 
 start_for : (kind : Kind) (operand : ℕ) (line : Line) (led : ℕ) → Wanted kind operand line → Keeps kind operand (poll led) →
-    (turn started : Kind) (value : ℕ) → line.phase ≡ Idle turn → next_of line turn led ≡ Start started value →
+    (turn started : Kind) (value : ℕ) → line.phase ≡ Idle turn → next_of line turn led ≡ Some (started, value) →
     AtPoll kind operand line (start_of line started value)
 start_for Led operand line led w k turn started value idle n = start_for_led line operand turn started value idle (rw idle at w) (rw k at n)
 start_for Rate operand line led w k turn started value idle n = start_for_rate line operand led turn started value idle w n

@@ -1,6 +1,6 @@
 -- What the line guarantees whatever comes in, each law a proposition of its own, for proofs/ to prove.
 -- Assumes nothing.
-use Rattle.std.specs.Prelude.{ℕ, ◌+◌, ◌<◌, ◌≤◌, true, false, List, [], ◌∷◌, ◌⊎◌, ◌≡◌}
+use Rattle.std.specs.Prelude.{ℕ, ◌+◌, ◌<◌, ◌≤◌, true, false, List, [], ◌∷◌, ◌⊎◌, ◌≡◌, None, Some}
 use Rattle.bits.specs.Choice.{when◌then◌else◌}
 use Rattle.line.specs.State.{new_line, sent_of, led_runs_of, is_value_of}
 use Rattle.line.specs.Poll.{next_of, poll_of}
@@ -11,9 +11,7 @@ use Rattle.line.specs.declared.Kind.TheVariants.{Led}
 use Rattle.line.specs.declared.Command.{Command}
 use Rattle.line.specs.declared.Phase.{Phase}
 use Rattle.line.specs.declared.Phase.TheVariants.{Idle, Awaiting, Ready}
-use Rattle.line.specs.declared.Setting.TheVariants.{None, Value}
 use Rattle.line.specs.declared.Line.{Line}
-use Rattle.line.specs.declared.Next.TheVariants.{Start}
 use Rattle.line.specs.declared.Answer.{Answer}
 use Rattle.line.specs.declared.Answer.TheVariants.{Send, Quiet, Taken, Ignored, GivenUp}
 use Rattle.line.specs.declared.Outcome.{Outcome}
@@ -93,7 +91,7 @@ SendsAgain =
 
 -- the LED value is handled, and no LED command runs
 pub record Settled (value : ℕ) (line : Line) : Type 0 where
-  pub handled : line.handled ≡ Value value
+  pub handled : line.handled ≡ Some value
   pub rests : led_runs_of line ≡ false
 
 -- a command is given up, and leaves this LED value settled
@@ -161,19 +159,19 @@ OperandStays = (line : Line) (input : Input) → KeepsIn line.phase (line_after 
 
 -- a LED command has the LED value of its first poll
 abbrev pub LedValueNow : Type 0
-LedValueNow = (line : Line) (turn : Kind) (led value : ℕ) → next_of line turn led ≡ Start Led value → value ≡ led
+LedValueNow = (line : Line) (turn : Kind) (led value : ℕ) → next_of line turn led ≡ Some (Led, value) → value ≡ led
 
 -- a command starts with its operand, and one send of one byte
 abbrev pub StartsWith : Type 0
 StartsWith =
-    (line : Line) (turn : Kind) (led : ℕ) (kind : Kind) (value : ℕ) → line.phase ≡ Idle turn → next_of line turn led ≡ Start kind value →
+    (line : Line) (turn : Kind) (led : ℕ) (kind : Kind) (value : ℕ) → line.phase ≡ Idle turn → next_of line turn led ≡ Some (kind, value) →
     (poll_of line led).line.phase ≡ Awaiting (record { kind = kind; value = value; operand = false; sends = 1; sent = 1 })
 
 -- a due LED value that has the turn or is alone starts
 abbrev pub LedStarts : Type 0
 LedStarts =
     (line : Line) (turn : Kind) (led : ℕ) → is_value_of line.handled led ≡ false → (turn ≡ Led) ⊎ (line.rate ≡ None) →
-    next_of line turn led ≡ Start Led led
+    next_of line turn led ≡ Some (Led, led)
 
 -- the poll that sends the operand sends that value, whatever the LED value is by then
 abbrev pub SendsOperand : Type 0

@@ -1,6 +1,6 @@
 -- What a poll sends: document 01, "The line", up to the send; document 02, W-208, for the turns.
 -- Assumes nothing.
-use Rattle.std.specs.Prelude.{ℕ, ◌+◌, false, ltb}
+use Rattle.std.specs.Prelude.{ℕ, ◌+◌, false, ltb, Option, None, Some}
 use Rattle.bits.specs.Choice.{when◌then◌else◌}
 use Rattle.line.specs.State.{is_value_of, unchanged_of}
 use Rattle.line.specs.declared.Kind.{Kind}
@@ -8,35 +8,31 @@ use Rattle.line.specs.declared.Kind.TheVariants.{Led, Rate}
 use Rattle.line.specs.declared.Command.{Command}
 use Rattle.line.specs.declared.Phase.{Phase}
 use Rattle.line.specs.declared.Phase.TheVariants.{Idle, Awaiting, Ready}
-use Rattle.line.specs.declared.Setting.{Setting}
-use Rattle.line.specs.declared.Setting.TheVariants.{None, Value}
 use Rattle.line.specs.declared.Line.{Line}
-use Rattle.line.specs.declared.Next.{Next}
-use Rattle.line.specs.declared.Next.TheVariants.{Nothing, Start}
 use Rattle.line.specs.declared.Answer.TheVariants.{Send, Quiet}
 use Rattle.line.specs.declared.Outcome.{Outcome}
 
 -- a rate that waits is a command to start
-unfoldable pub waiting_of : Setting → Next
-waiting_of None = Nothing
-waiting_of (Value rate) = Start Rate rate
+unfoldable pub waiting_of : Option ℕ → Option (Kind × ℕ)
+waiting_of None = None
+waiting_of (Some rate) = Some (Rate, rate)
 
 -- so is a LED value that differs from the last handled
-unfoldable pub unhandled_of : Setting → ℕ → Next
-unhandled_of handled led = when is_value_of handled led then Nothing else Start Led led
+unfoldable pub unhandled_of : Option ℕ → ℕ → Option (Kind × ℕ)
+unhandled_of handled led = when is_value_of handled led then None else Some (Led, led)
 
 -- the first of two commands, or the only one
-unfoldable pub first_of : Next → Next → Next
-first_of Nothing second = second
-first_of (Start kind value) second = Start kind value
+unfoldable pub first_of : Option (Kind × ℕ) → Option (Kind × ℕ) → Option (Kind × ℕ)
+first_of None second = second
+first_of (Some (kind, value)) second = Some (kind, value)
 
 -- a turn decides where both are there
-unfoldable pub in_turn_of : Kind → Next → Next → Next
+unfoldable pub in_turn_of : Kind → Option (Kind × ℕ) → Option (Kind × ℕ) → Option (Kind × ℕ)
 in_turn_of Led led rate = first_of led rate
 in_turn_of Rate led rate = first_of rate led
 
 -- which command a poll starts on a line that is idle in the turn of a kind
-unfoldable pub next_of : Line → Kind → ℕ → Next
+unfoldable pub next_of : Line → Kind → ℕ → Option (Kind × ℕ)
 next_of line turn led = in_turn_of turn (unhandled_of line.handled led) (waiting_of line.rate)
 
 -- a count of sends, which never passes its limit
@@ -78,7 +74,7 @@ send_of line command =
     }
 
 -- a rate whose command starts no longer waits
-unfoldable pub rate_left_of : Setting → Kind → Setting
+unfoldable pub rate_left_of : Option ℕ → Kind → Option ℕ
 rate_left_of rate Led = rate
 rate_left_of rate Rate = None
 
@@ -100,9 +96,9 @@ start_of line kind value =
     })
     (record { kind = kind; value = value; operand = false; sends = 0; sent = 0 })
 
-unfoldable pub start_next_of : Line → Next → Outcome
-start_next_of line Nothing = unchanged_of line Quiet
-start_next_of line (Start kind value) = start_of line kind value
+unfoldable pub start_next_of : Line → Option (Kind × ℕ) → Outcome
+start_next_of line None = unchanged_of line Quiet
+start_next_of line (Some (kind, value)) = start_of line kind value
 
 unfoldable pub idle_poll_of : Line → Kind → ℕ → Outcome
 idle_poll_of line turn led = start_next_of line (next_of line turn led)

@@ -1,6 +1,6 @@
 -- The range of every number of a line, which no input leaves. Ranges.antt of proofs/ proves it.
 -- Assumes nothing.
-use Rattle.std.specs.Prelude.{ℕ, ◌<◌, ◌≤◌}
+use Rattle.std.specs.Prelude.{ℕ, ◌<◌, ◌≤◌, Option, None, Some}
 use Rattle.line.specs.State.{new_line}
 use Rattle.line.specs.Inputs.{Input, poll, acknowledge, resend, time_out, restart, wait_rate, line_after}
 use Rattle.line.specs.declared.Kind.{Kind}
@@ -8,8 +8,6 @@ use Rattle.line.specs.declared.Kind.TheVariants.{Led, Rate}
 use Rattle.line.specs.declared.Command.{Command}
 use Rattle.line.specs.declared.Phase.{Phase}
 use Rattle.line.specs.declared.Phase.TheVariants.{Idle, Awaiting, Ready}
-use Rattle.line.specs.declared.Setting.{Setting}
-use Rattle.line.specs.declared.Setting.TheVariants.{None, Value}
 use Rattle.line.specs.declared.Line.{Line}
 
 -- a LED value has three bits, a delay and rate seven
@@ -23,9 +21,9 @@ abbrev pub values_of : Kind → ℕ
 values_of Led = led_values
 values_of Rate = rate_values
 
-abbrev pub SettingBelow : ℕ → Setting → Type 0
+abbrev pub SettingBelow : ℕ → Option ℕ → Type 0
 SettingBelow values None = Unit {0}
-SettingBelow values (Value value) = value < values
+SettingBelow values (Some value) = value < values
 
 -- three sends of a byte, six bytes of a command
 pub record CommandInRange (command : Command) : Type 0 where

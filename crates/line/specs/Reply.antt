@@ -1,12 +1,11 @@
 -- What FA, FE and a time-out do: document 01, "The line", from the reply on, with the marks of byte 97 that they set.
 -- Assumes nothing.
-use Rattle.std.specs.Prelude.{true, ltb}
+use Rattle.std.specs.Prelude.{true, ltb, Some}
 use Rattle.bits.specs.Choice.{when◌then◌else◌}
 use Rattle.line.specs.State.{is_led_of, other_of, in_phase_of, with_marks_of, unchanged_of}
 use Rattle.line.specs.declared.Command.{Command}
 use Rattle.line.specs.declared.Phase.{Phase}
 use Rattle.line.specs.declared.Phase.TheVariants.{Idle, Awaiting, Ready}
-use Rattle.line.specs.declared.Setting.TheVariants.{Value}
 use Rattle.line.specs.declared.Line.{Line}
 use Rattle.line.specs.declared.Answer.TheVariants.{Taken, Ignored, GivenUp}
 use Rattle.line.specs.declared.Outcome.{Outcome}
@@ -62,7 +61,7 @@ unfoldable pub ended_of : Line → Command → Line
 ended_of line command =
     record {
       phase = Idle (other_of command.kind);
-      handled = when is_led_of command.kind then Value command.value else line.handled;
+      handled = when is_led_of command.kind then Some command.value else line.handled;
       rate = line.rate;
       marks = line.marks;
     }

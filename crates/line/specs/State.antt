@@ -1,12 +1,10 @@
 -- The line's state: how it is made and restarted, what is read off it, and the changes of it that several rules share.
 -- Assumes nothing.
-use Rattle.std.specs.Prelude.{ℕ, Bool, true, false, eqb}
+use Rattle.std.specs.Prelude.{ℕ, Bool, true, false, eqb, Option, None, Some}
 use Rattle.line.specs.declared.Kind.{Kind}
 use Rattle.line.specs.declared.Kind.TheVariants.{Led, Rate}
 use Rattle.line.specs.declared.Phase.{Phase}
 use Rattle.line.specs.declared.Phase.TheVariants.{Idle, Awaiting, Ready}
-use Rattle.line.specs.declared.Setting.{Setting}
-use Rattle.line.specs.declared.Setting.TheVariants.{None, Value}
 use Rattle.line.specs.declared.Marks.{Marks}
 use Rattle.line.specs.declared.Line.{Line}
 use Rattle.line.specs.declared.Answer.{Answer}
@@ -24,7 +22,7 @@ new_line =
 
 -- function 03: the rate waits, whether or not another waited
 unfoldable pub wait_rate_of : Line → ℕ → Line
-wait_rate_of line rate = record { phase = line.phase; handled = line.handled; rate = Value rate; marks = line.marks }
+wait_rate_of line rate = record { phase = line.phase; handled = line.handled; rate = Some rate; marks = line.marks }
 
 -- the bytes sent by the command that runs, 0 without one
 unfoldable pub sent_in : Phase → ℕ
@@ -54,9 +52,9 @@ other_of Led = Rate
 other_of Rate = Led
 
 -- the setting is this value
-unfoldable pub is_value_of : Setting → ℕ → Bool
+unfoldable pub is_value_of : Option ℕ → ℕ → Bool
 is_value_of None value = false
-is_value_of (Value known) value = eqb known value
+is_value_of (Some known) value = eqb known value
 
 abbrev pub in_phase_of : Line → Phase → Line
 in_phase_of line phase = record { phase = phase; handled = line.handled; rate = line.rate; marks = line.marks }

@@ -1,6 +1,6 @@
 -- Turns, document 02, W-208: what a due LED value and a waiting rate wait for. Turns.antt of proofs/ proves each sentence.
 -- Assumes nothing.
-use Rattle.std.specs.Prelude.{ℕ, ◌+◌, ◌-◌, ◌≤◌, false, List, [], ◌∷◌, ◌≡◌}
+use Rattle.std.specs.Prelude.{ℕ, ◌+◌, ◌-◌, ◌≤◌, false, List, [], ◌∷◌, ◌≡◌, Option, Some}
 use Rattle.bits.specs.Choice.{when◌then◌else◌}
 use Rattle.line.specs.State.{new_line, is_led_of, other_of, is_value_of}
 use Rattle.line.specs.Poll.{first_byte_of, start_of, poll_of}
@@ -12,8 +12,6 @@ use Rattle.line.specs.declared.Kind.TheVariants.{Led, Rate}
 use Rattle.line.specs.declared.Command.{Command}
 use Rattle.line.specs.declared.Phase.{Phase}
 use Rattle.line.specs.declared.Phase.TheVariants.{Idle, Awaiting, Ready}
-use Rattle.line.specs.declared.Setting.{Setting}
-use Rattle.line.specs.declared.Setting.TheVariants.{Value}
 use Rattle.line.specs.declared.Line.{Line}
 use Rattle.line.specs.declared.Answer.{Answer}
 use Rattle.line.specs.declared.Answer.TheVariants.{Send, Quiet, Taken, Ignored, GivenUp}
@@ -67,18 +65,18 @@ ElevenAhead = (kind : Kind) (line : Line) → Within line → Begun line → ahe
 -- ---- 2. a command that is wanted
 
 -- the LED value started last: that of the LED command that runs, else the last handled
-abbrev pub started_in : Setting → Phase → Setting
+abbrev pub started_in : Option ℕ → Phase → Option ℕ
 started_in handled (Idle turn) = handled
-started_in handled (Awaiting command) = when is_led_of command.kind then Value command.value else handled
-started_in handled (Ready command) = when is_led_of command.kind then Value command.value else handled
+started_in handled (Awaiting command) = when is_led_of command.kind then Some command.value else handled
+started_in handled (Ready command) = when is_led_of command.kind then Some command.value else handled
 
-abbrev pub started_of : Line → Setting
+abbrev pub started_of : Line → Option ℕ
 started_of line = started_in line.handled line.phase
 
 -- a LED value is due where another was started last; a rate waits
 abbrev pub Wanted : Kind → ℕ → Line → Type 0
 Wanted Led value line = is_value_of (started_of line) value ≡ false
-Wanted Rate rate line = line.rate ≡ Value rate
+Wanted Rate rate line = line.rate ≡ Some rate
 
 -- no other rate comes, and no R
 abbrev pub KeepsRate : Input → Type 0

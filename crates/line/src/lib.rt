@@ -36,13 +36,6 @@ pub enum Phase {
     Ready(Command),
 }
 
-// An operand that may be missing.
-#[derive(Clone, Copy)]
-pub enum Setting {
-    None,
-    Value(u8),
-}
-
 // What byte 97 shows of the past.
 #[derive(Clone, Copy)]
 pub struct Marks {
@@ -57,16 +50,9 @@ pub struct Line {
     pub phase: Phase,
     pub marks: Marks,
     // the rate that waits for its command
-    pub rate: Setting,
+    pub rate: Option<u8>,
     // the last LED value that was done or given up
-    pub handled: Setting,
-}
-
-// What an idle poll starts: a command with its operand, or nothing.
-#[derive(Clone, Copy)]
-pub enum Next {
-    Nothing,
-    Start(Kind, u8),
+    pub handled: Option<u8>,
 }
 
 #[derive(Clone, Copy)]
@@ -87,13 +73,14 @@ pub struct Outcome {
 }
 
 // A line as made, and as a restart leaves it.
+#[tactic(auto, unfolding(crate::specs::State::new_line))]
 pub fn new() -> Line
     ensures { result ≡ new_line }
 {
     Line {
         phase: Phase::Idle(Kind::Led),
-        handled: Setting::None,
-        rate: Setting::None,
+        handled: None,
+        rate: None,
         marks: Marks {
             done: 0,
             acknowledged: false,
@@ -104,33 +91,29 @@ pub fn new() -> Line
 }
 
 // A new waiting rate replaces one that waits; a command that runs keeps its own.
+#[tactic(auto, unfolding(crate::specs::State::wait_rate_of))]
 pub fn wait_rate(line: Line, rate: u8) -> Line
     ensures { result ≡ wait_rate_of line rate }
 {
-    let phase = line.phase;
-    let handled = line.handled;
-    let marks = line.marks;
     Line {
-        phase,
-        handled,
-        rate: Setting::Value(rate),
-        marks,
+        rate: Some(rate),
+        ..line
     }
 }
 
 // The bytes sent by the command that runs, 0 without one.
+#[tactic(auto, unfolding(crate::specs::State::sent_of, crate::specs::State::sent_in))]
 pub fn sent(line: Line) -> u8
     ensures { result ≡ sent_of line }
 {
-    let phase = line.phase;
-    match phase {
+    match line.phase {
         Phase::Idle(_) => 0,
-        Phase::Awaiting(command) => command.sent,
-        Phase::Ready(command) => command.sent,
+        Phase::Awaiting(command) | Phase::Ready(command) => command.sent,
     }
 }
 
 // An answer that leaves the line as it is.
+#[tactic(auto, unfolding(crate::specs::State::unchanged_of))]
 pub fn unchanged(line: Line, answer: Answer) -> Outcome
     ensures { result ≡ unchanged_of line answer }
 {
@@ -139,29 +122,26 @@ pub fn unchanged(line: Line, answer: Answer) -> Outcome
 }
 
 // Whether a command is a LED command.
+#[tactic(auto, unfolding(crate::specs::State::is_led_of))]
 pub fn is_led(command: Command) -> bool
     ensures { result ≡ is_led_of command.kind }
 {
-    let kind = command.kind;
-    match kind {
-        Kind::Led => true,
-        Kind::Rate => false,
-    }
+    matches!(command.kind, Kind::Led)
 }
 
 // Bit 6 of byte 97.
+#[tactic(auto, unfolding(crate::specs::State::led_runs_of, crate::specs::State::led_runs_in))]
 fn led_runs(line: Line) -> bool
     ensures { result ≡ led_runs_of line }
 {
-    let phase = line.phase;
-    match phase {
+    match line.phase {
         Phase::Idle(_) => false,
-        Phase::Awaiting(command) => is_led(command),
-        Phase::Ready(command) => is_led(command),
+        Phase::Awaiting(command) | Phase::Ready(command) => is_led(command),
     }
 }
 
 // Flag byte 97: a LED value has three bits, so the remainder is the value itself.
+#[tactic(auto, unfolding(bits::specs::Bits::byte_of, bits::specs::Bits::weight_of, crate::specs::Byte97::byte97_of))]
 pub fn byte97(line: Line) -> u8
     ensures { result ≡ byte97_of line }
 {

@@ -5,58 +5,38 @@ ghost use Rattle.std.specs.Prelude.{◌≡◌};
 ghost use Rattle.line.specs.State.{is_value_of};
 ghost use Rattle.line.specs.Poll.{waiting_of, unhandled_of, first_of, next_of, one_more_of, first_byte_of, due_of, counted_of, send_of, rate_left_of, start_of, idle_poll_of, poll_of};
 
-use line::{Answer, Command, Kind, Line, Next, Outcome, Phase, Setting};
+use line::{Answer, Command, Kind, Line, Marks, Outcome, Phase};
 
-fn is_value(setting: Setting, value: u8) -> bool
-    ensures { result ≡ is_value_of setting value }
-{
-    match setting {
-        Setting::None => false,
-        Setting::Value(known) => known == value,
-    }
-}
+// A command that a poll may start: its kind and its operand.
+type Start = (Kind, u8);
 
 // The command of the rate that waits.
-fn waiting(rate: Setting) -> Next
+#[tactic(auto, unfolding(line::specs::Poll::waiting_of))]
+fn waiting(rate: Option<u8>) -> Option<Start>
     ensures { result ≡ waiting_of rate }
 {
-    match rate {
-        Setting::None => Next::Nothing,
-        Setting::Value(value) => Next::Start(Kind::Rate, value),
-    }
+    rate.map(|value| (Kind::Rate, value))
 }
 
 // The command of a LED value that was not handled.
-fn unhandled(handled: Setting, led: u8) -> Next
+fn unhandled(handled: Option<u8>, led: u8) -> Option<Start>
     ensures { result ≡ unhandled_of handled led }
 {
-    if is_value(handled, led) {
-        return Next::Nothing;
+    if handled == Some(led) {
+        return None;
     }
-    Next::Start(Kind::Led, led)
-}
-
-// The first of two commands, or the only one.
-fn first(ahead: Next, behind: Next) -> Next
-    ensures { result ≡ first_of ahead behind }
-{
-    match ahead {
-        Next::Nothing => behind,
-        Next::Start(kind, value) => Next::Start(kind, value),
-    }
+    Some((Kind::Led, led))
 }
 
 // Which command starts: where both are there, the one whose turn it is.
-fn next_command(line: Line, turn: Kind, led: u8) -> Next
+fn next_command(line: Line, turn: Kind, led: u8) -> Option<Start>
     ensures { result ≡ next_of line turn led }
 {
-    let handled = line.handled;
-    let setting = line.rate;
-    let lamps = unhandled(handled, led);
-    let rate = waiting(setting);
+    let lamps = unhandled(line.handled, led);
+    let rate = waiting(line.rate);
     match turn {
-        Kind::Led => first(lamps, rate),
-        Kind::Rate => first(rate, lamps),
+        Kind::Led => lamps.or(rate),
+        Kind::Rate => rate.or(lamps),
     }
 }
 
@@ -70,6 +50,7 @@ fn one_more(count: u8, most: u8) -> u8
     most
 }
 
+#[tactic(auto, unfolding(line::specs::Poll::first_byte_of))]
 fn first_byte(kind: Kind) -> u8
     ensures { result ≡ first_byte_of kind }
 {
@@ -83,39 +64,39 @@ fn first_byte(kind: Kind) -> u8
 fn due(command: Command) -> u8
     ensures { result ≡ due_of command }
 {
-    let kind = command.kind;
     if command.operand {
         return command.value;
     }
-    first_byte(kind)
+    first_byte(command.kind)
 }
 
 // The command with one more send of its byte.
+#[tactic(auto, unfolding(line::specs::Poll::counted_of))]
 fn counted(command: Command) -> Command
     ensures { result ≡ counted_of command }
 {
-    let mut next = command;
-    next.sends = one_more(command.sends, 3);
-    next.sent = one_more(command.sent, 6);
-    next
+    Command {
+        sends: one_more(command.sends, 3),
+        sent: one_more(command.sent, 6),
+        ..command
+    }
 }
 
 // One send of the byte under way, after which its reply is awaited.
+#[tactic(auto, unfolding(line::specs::Poll::send_of))]
 fn send(line: Line, command: Command) -> Outcome
     ensures { result ≡ send_of line command }
 {
-    let handled = line.handled;
-    let rate = line.rate;
-    let mut marks = line.marks;
-    marks.acknowledged = false;
-    marks.resend = false;
     let next = counted(command);
     Outcome {
         line: Line {
             phase: Phase::Awaiting(next),
-            handled,
-            rate,
-            marks,
+            marks: Marks {
+                acknowledged: false,
+                resend: false,
+                ..line.marks
+            },
+            ..line
         },
         answer: Answer::Send(due(command)),
         sent: next.sent,
@@ -123,30 +104,28 @@ fn send(line: Line, command: Command) -> Outcome
 }
 
 // The rate that waits once a command started.
-fn rate_left(rate: Setting, kind: Kind) -> Setting
+#[tactic(auto, unfolding(line::specs::Poll::rate_left_of))]
+fn rate_left(rate: Option<u8>, kind: Kind) -> Option<u8>
     ensures { result ≡ rate_left_of rate kind }
 {
     match kind {
         Kind::Led => rate,
-        Kind::Rate => Setting::None,
+        Kind::Rate => None,
     }
 }
 
 // A command starts by the first send of its first byte.
+#[tactic(auto, unfolding(line::specs::Poll::start_of))]
 fn start(line: Line, kind: Kind, value: u8) -> Outcome
     ensures { result ≡ start_of line kind value }
 {
-    let handled = line.handled;
-    let rate = line.rate;
-    let left = rate_left(rate, kind);
-    let mut marks = line.marks;
-    marks.abandoned = false;
-    let phase = line.phase;
     let fresh = Line {
-        phase,
-        handled,
-        rate: left,
-        marks,
+        rate: rate_left(line.rate, kind),
+        marks: Marks {
+            abandoned: false,
+            ..line.marks
+        },
+        ..line
     };
     let command = Command {
         kind,
@@ -159,22 +138,22 @@ fn start(line: Line, kind: Kind, value: u8) -> Outcome
 }
 
 // A poll of an idle line.
+#[tactic(auto, unfolding(line::specs::Poll::idle_poll_of, line::specs::Poll::start_next_of))]
 fn idle_poll(line: Line, turn: Kind, led: u8) -> Outcome
     ensures { result ≡ idle_poll_of line turn led }
 {
-    let next = next_command(line, turn, led);
-    match next {
-        Next::Nothing => line::unchanged(line, Answer::Quiet),
-        Next::Start(kind, value) => start(line, kind, value),
+    match next_command(line, turn, led) {
+        None => line::unchanged(line, Answer::Quiet),
+        Some((kind, value)) => start(line, kind, value),
     }
 }
 
 // A poll for a byte to send, with the LED value that stands now.
+#[tactic(auto, unfolding(line::specs::Poll::poll_in, line::specs::Poll::poll_of))]
 pub fn poll(line: Line, led: u8) -> Outcome
     ensures { result ≡ poll_of line led }
 {
-    let phase = line.phase;
-    match phase {
+    match line.phase {
         Phase::Idle(turn) => idle_poll(line, turn, led),
         Phase::Awaiting(_) => line::unchanged(line, Answer::Quiet),
         Phase::Ready(command) => send(line, command),

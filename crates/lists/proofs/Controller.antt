@@ -1,5 +1,7 @@
 -- The laws that Controller.antt of specs/ states: item by item, from the one law of events and the controller.
 -- Assumes nothing.
+use Rattle.std.specs.Prelude.{Result, Ok, Err}
+use Rattle.frame.specs.declared.Fault.{Fault}
 use Prim.Native.Nat.{ℕ}
 use mathlib.Core.Path.{◌≡◌, refl, ap, sym, ◌∙◌}
 use mathlib.Core.Bool.{false}
@@ -9,8 +11,6 @@ use borrow.Author.Tests.{ltb-true, ltb-false}
 use Rattle.bits.specs.Bits.{bit0, bit4}
 use Rattle.bits.specs.Choice.{when◌then◌else◌}
 use Rattle.bits.proofs.Choice.{by_test, either}
-use Rattle.frame.specs.declared.Reading.{Reading}
-use Rattle.frame.specs.declared.Reading.TheVariants.{Byte, Refused}
 use Rattle.frame.specs.Frame.{read_frame}
 use Rattle.controller.specs.declared.Buffer.TheVariants as buffer
 use Rattle.controller.specs.declared.Controller.{Controller}
@@ -86,11 +86,11 @@ event_beside controller service event = split event
     split Restart = beside (restart_renews controller service)
     split (Scan byte) = apart (Scan byte) refl
 
-frame_beside : (controller : Controller) (service : Service) (reading : Reading)
+frame_beside : (controller : Controller) (service : Service) (reading : Result ℕ Fault)
     → Beside (on_frame (with_controller service controller) reading) (on_frame service reading)
 unfolding answered_of
-frame_beside controller service (Byte byte) = event_beside controller service (Key byte)
-frame_beside controller service (Refused fault) = record { left = refl; shown = controller_unshown controller (on_frame service (Refused fault)) }
+frame_beside controller service (Ok byte) = event_beside controller service (Key byte)
+frame_beside controller service (Err fault) = record { left = refl; shown = controller_unshown controller (on_frame service (Err fault)) }
 
 change_beside : (controller : Controller) (service : Service) (set : CodeSet) → Beside (change_of (with_controller service controller) set) (change_of service set)
 unfolding change_of answered_of

@@ -1,12 +1,12 @@
 -- The laws that EventLaws.antt of specs/ states: nothing but events, changes of set and port events runs. A change of set leaves line and queue, and a
 -- port event does what the key does that it feeds, so what is proved of events carries over.
 -- Assumes nothing.
+use Rattle.std.specs.Prelude.{Result, Ok, Err}
+use Rattle.frame.specs.declared.Fault.{Fault}
 use Prim.Native.Nat.{ℕ, ◌+◌, ◌≤◌}
 use mathlib.Core.Path.{◌≡◌, refl, ap, sym, ◌∙◌}
 use mathlib.Core.List.{List, [], ◌∷◌, ◌++◌, map}
 use Rattle.bits.specs.Choice.{when◌then◌else◌}
-use Rattle.frame.specs.declared.Reading.{Reading}
-use Rattle.frame.specs.declared.Reading.TheVariants.{Byte, Refused}
 use Rattle.frame.specs.Frame.{read_frame}
 use Rattle.queue.specs.Words.{Whole}
 use Rattle.queue.proofs.Laws.{at_most_capacity}
@@ -108,10 +108,10 @@ whole_after = kept (λ (s : Service). Whole s.queue) whole_next (λ service set 
 -- ---- sent
 
 -- a refused frame shows the count that a refused call shows
-frame_at_most_six : (service : Service) (reading : Reading) → ((e : Event) → (step_of service e).sent ≤ 6) → (on_frame service reading).sent ≤ 6
+frame_at_most_six : (service : Service) (reading : Result ℕ Fault) → ((e : Event) → (step_of service e).sent ≤ 6) → (on_frame service reading).sent ≤ 6
 unfolding step_of call_of answered_of when◌then◌else◌
-frame_at_most_six service (Byte byte) six = six (Key byte)
-frame_at_most_six service (Refused fault) six = six (Call 0xFF 0 0)
+frame_at_most_six service (Ok byte) six = six (Key byte)
+frame_at_most_six service (Err fault) six = six (Call 0xFF 0 0)
 
 abbrev sent_by : List Shown → List ℕ
 sent_by shown = map (λ (s : Shown). s.sent) shown

@@ -1,5 +1,6 @@
 -- The laws that ItemLaws.antt of specs/ states. A new kind of item adds the laws of its step and a clause to `by_item`; the rest goes over that.
 -- Assumes nothing.
+use Rattle.std.specs.Prelude.{Result, Ok, Err}
 use Prim.Native.Nat.{ℕ, suc}
 use mathlib.Core.Path.{◌≡◌, refl, ap, sym, subst, ◌∙◌}
 use mathlib.Core.Bool.{true, false}
@@ -12,8 +13,6 @@ use Rattle.bits.proofs.Choice.{by_test}
 use Rattle.bits.proofs.Tests.{not_both}
 use Rattle.frame.specs.declared.Fault.{Fault}
 use Rattle.frame.specs.declared.Fault.TheVariants.{Start, Parity, Stop}
-use Rattle.frame.specs.declared.Reading.{Reading}
-use Rattle.frame.specs.declared.Reading.TheVariants.{Byte, Refused}
 use Rattle.frame.specs.Frame.{frame_of, read_frame, fault_number}
 use Rattle.frame.proofs.OneFrameEach.{one_frame_each}
 use Rattle.translation.specs.declared.CodeSet.{CodeSet}
@@ -77,7 +76,7 @@ above_five Start = refl
 above_five Parity = refl
 above_five Stop = refl
 
-abbrev framed : Service → Reading → Stepped
+abbrev framed : Service → Result ℕ Fault → Stepped
 framed service reading =
     let outcome = on_frame service reading in
     record { service = outcome.service; ran = fed_by reading; seen = seen_of outcome no_port }
@@ -90,7 +89,7 @@ pub refused_runs_nothing : RefusedRunsNothing
 unfolding step_item frame_step_of answered_of
 refused_runs_nothing service frame fault is = ap (framed service) is ∙ numbered fault
   where
-    numbered : (fault : Fault) → framed service (Refused fault) ≡ turned_away service (fault_number fault)
+    numbered : (fault : Fault) → framed service (Err fault) ≡ turned_away service (fault_number fault)
     numbered Start = refl
     numbered Parity = refl
     numbered Stop = refl
@@ -99,9 +98,9 @@ by_reading : (P : Stepped → Type 0) (service : Service) (frame : ℕ)
     → ((byte : ℕ) → P (step_item service (runs (Key byte)))) → Away P service → P (step_item service (receives frame))
 by_reading P service frame byte away = split (read_frame frame) refl
   where
-    split : (reading : Reading) → read_frame frame ≡ reading → P (step_item service (receives frame))
-    split (Byte b) is = rw (accepted_is_key service frame b is) (byte b)
-    split (Refused f) is = rw (refused_runs_nothing service frame f is) (away (fault_number f) (above_five f))
+    split : (reading : Result ℕ Fault) → read_frame frame ≡ reading → P (step_item service (receives frame))
+    split (Ok b) is = rw (accepted_is_key service frame b is) (byte b)
+    split (Err f) is = rw (refused_runs_nothing service frame f is) (away (fault_number f) (above_five f))
 
 -- ---- a port event, by how the controller responds
 

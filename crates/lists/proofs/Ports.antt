@@ -1,5 +1,7 @@
 -- The laws that Ports.antt of specs/ states: item by item, from the one law of either port.
 -- Assumes nothing.
+use Rattle.std.specs.Prelude.{Result, Ok, Err}
+use Rattle.frame.specs.declared.Fault.{Fault}
 use Prim.Native.Nat.{ℕ}
 use mathlib.Core.Path.{◌≡◌, refl, ap, sym, ◌∙◌}
 use mathlib.Core.Bool.{false}
@@ -8,8 +10,6 @@ use lib.ListN.{drop}
 use borrow.Author.Tests.{ltb-true, ltb-false}
 use Rattle.bits.proofs.Choice.{by_test}
 use Rattle.bits.proofs.Tests.{not_both}
-use Rattle.frame.specs.declared.Reading.{Reading}
-use Rattle.frame.specs.declared.Reading.TheVariants.{Byte, Refused}
 use Rattle.frame.specs.Frame.{read_frame}
 use Rattle.port.specs.declared.Port.{Port}
 use Rattle.controller.specs.declared.Response.{Response}
@@ -121,10 +121,10 @@ report_apart device port service event buffer other =
           status = status;
         }
 
-frame_apart : (port : Port) (service : Service) (reading : Reading) → Apart Scanner port (on_frame (on_port Scanner port service) reading) (on_frame service reading)
+frame_apart : (port : Port) (service : Service) (reading : Result ℕ Fault) → Apart Scanner port (on_frame (on_port Scanner port service) reading) (on_frame service reading)
 unfolding answered_of
-frame_apart port service (Byte byte) = event_apart Scanner port service (Key byte) refl
-frame_apart port service (Refused fault) = outcome_apart Scanner port _ _ refl
+frame_apart port service (Ok byte) = event_apart Scanner port service (Key byte) refl
+frame_apart port service (Err fault) = outcome_apart Scanner port _ _ refl
 
 response_apart : (port : Port) (service : Service) (r : Response) → Apart Scanner port (on_response (on_port Scanner port service) r) (on_response service r)
 unfolding answered_of

@@ -1,5 +1,7 @@
 -- The laws that TakenOut.antt of specs/ states: an item that leaves its service as it was can be taken out of any list.
 -- Assumes nothing.
+use Rattle.std.specs.Prelude.{Result, Ok, Err}
+use Rattle.frame.specs.declared.Fault.{Fault}
 use Prim.Native.Nat.{ℕ, ◌-◌}
 use mathlib.Core.Path.{◌≡◌, refl, ap, sym, ◌∙◌}
 use mathlib.Core.Bool.{Bool, true, false, true≢false}
@@ -8,8 +10,6 @@ use lib.Dec.{ltb}
 use native.Mathlib.Omega.{arith}
 use borrow.Author.Tests.{ltb-true, lt-ltb, not-true}
 use Rattle.bits.specs.Choice.{when◌then◌else◌}
-use Rattle.frame.specs.declared.Reading.{Reading}
-use Rattle.frame.specs.declared.Reading.TheVariants.{Byte, Refused}
 use Rattle.frame.specs.Frame.{read_frame}
 use Rattle.frame.specs.Laws.{is_accepted}
 use Rattle.controller.specs.declared.PortEvent.{PortEvent}
@@ -53,10 +53,10 @@ module _ (picked : Service → Item → Bool)
 
 -- ---- refused frames
 
-fault_leaves : (service : Service) (frame : ℕ) (reading : Reading) → read_frame frame ≡ reading → is_accepted reading ≡ false
+fault_leaves : (service : Service) (frame : ℕ) (reading : Result ℕ Fault) → read_frame frame ≡ reading → is_accepted reading ≡ false
     → next_item service (receives frame) ≡ service
-fault_leaves service frame (Byte byte) is accepted = absurd (true≢false accepted)
-fault_leaves service frame (Refused fault) is accepted = ap (λ (s : Stepped). s.service) (refused_runs_nothing service frame fault is)
+fault_leaves service frame (Ok byte) is accepted = absurd (true≢false accepted)
+fault_leaves service frame (Err fault) is accepted = ap (λ (s : Stepped). s.service) (refused_runs_nothing service frame fault is)
 
 frame_leaves : (service : Service) (item : Item) → refused_frame service item ≡ true → next_item service item ≡ service
 frame_leaves service (runs event) is = absurd (true≢false (sym is))

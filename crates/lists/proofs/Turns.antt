@@ -1,5 +1,6 @@
 -- The laws that Turns.antt of specs/ states, over lists: each item by what it does for a command that is wanted.
 -- Assumes nothing.
+use Rattle.std.specs.Prelude.{Some}
 use Prim.Native.Nat.{ℕ, ◌+◌, ◌*◌, ◌≤◌}
 use native.Mathlib.Omega.{arith}
 use mathlib.Core.Bool.{Bool, false, ◌||◌}
@@ -11,7 +12,6 @@ use Rattle.bits.proofs.Choice.{by_test}
 use Rattle.line.specs.declared.Kind.{Kind}
 use Rattle.line.specs.declared.Kind.TheVariants.{Rate}
 use Rattle.line.specs.declared.Line.{Line}
-use Rattle.line.specs.declared.Setting.TheVariants.{Value}
 use Rattle.line.specs.State.{wait_rate_of}
 use Rattle.line.specs.Poll.{one_more_of, counted_of, send_of, start_of}
 use Rattle.line.specs.Inputs.{Input, poll, restart, wait_rate, line_after}
@@ -112,7 +112,7 @@ before_its_turn kind operand set locks earlier later h k =
 -- a rate that is accepted waits
 module _ (service : Service) (delay rate : ℕ) where
   abbrev SetsRate : Outcome → Type 0
-  SetsRate outcome = refusal_in (shown_of outcome).ans ≡ 0 → outcome.service.line.rate ≡ Value (32 * delay + rate)
+  SetsRate outcome = refusal_in (shown_of outcome).ans ≡ 0 → outcome.service.line.rate ≡ Some (32 * delay + rate)
 
   set_waits : SetsRate (set_rate_of service delay rate)
   unfolding set_rate_of answered_of wait_rate_of when◌then◌else◌
@@ -126,7 +126,7 @@ module _ (service : Service) (delay rate : ℕ) where
 
   abbrev Accepted : Stepped → Type 0
   Accepted stepped =
-      stepped.ran ≡ runs (Call 0x03 delay rate) ∷ [] → stepped.seen.refusal ≡ 0 → stepped.service.line.rate ≡ Value (32 * delay + rate)
+      stepped.ran ≡ runs (Call 0x03 delay rate) ∷ [] → stepped.seen.refusal ≡ 0 → stepped.service.line.rate ≡ Some (32 * delay + rate)
 
   none_ran : {A : Type 0} → [] ≡ runs (Call 0x03 delay rate) ∷ [] → A
   none_ran ran = let z : ◌≡◌ {A = ℕ} 0 1 = cc ran in absurd (omega arith)

@@ -1,8 +1,7 @@
 -- What holds of items and of lists of them. ItemLaws.antt of proofs/ proves each sentence.
 -- Assumes nothing.
-use Rattle.std.specs.Prelude.{ℕ, ◌+◌, ◌<◌, ◌≤◌, ◌≡◌, false, List, [], ◌∷◌, ◌++◌, map, length, drop}
+use Rattle.std.specs.Prelude.{ℕ, ◌+◌, ◌<◌, ◌≤◌, ◌≡◌, false, List, [], ◌∷◌, ◌++◌, map, length, drop, Ok, Err}
 use Rattle.frame.specs.declared.Fault.{Fault}
-use Rattle.frame.specs.declared.Reading.TheVariants.{Byte, Refused}
 use Rattle.frame.specs.Frame.{frame_of, read_frame, fault_number}
 use Rattle.line.specs.State.{sent_of}
 use Rattle.controller.specs.declared.PortEvent.{PortEvent}
@@ -62,7 +61,7 @@ LongRuns =
 -- a byte: all that its K event is
 abbrev pub AcceptedIsKey : Type 0
 AcceptedIsKey =
-    (service : Service) (frame byte : ℕ) → read_frame frame ≡ Byte byte → step_item service (receives frame) ≡ step_item service (runs (Key byte))
+    (service : Service) (frame byte : ℕ) → read_frame frame ≡ Ok byte → step_item service (receives frame) ≡ step_item service (runs (Key byte))
 
 -- refused by a number above 5: no event, the service as it was; the flag bytes and the count of bytes sent are shown as they stand
 abbrev pub turned_away : Service → ℕ → Stepped
@@ -92,7 +91,7 @@ turned_away service number =
 -- a fault: 11, 12 or 13
 abbrev pub RefusedRunsNothing : Type 0
 RefusedRunsNothing =
-    (service : Service) (frame : ℕ) (fault : Fault) → read_frame frame ≡ Refused fault →
+    (service : Service) (frame : ℕ) (fault : Fault) → read_frame frame ≡ Err fault →
     step_item service (receives frame) ≡ turned_away service (fault_number fault)
 
 -- One item: a port event by how the controller responds.

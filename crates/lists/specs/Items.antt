@@ -1,9 +1,8 @@
 -- What a list can hold: the things that a caller does with a service, one after the other.
 -- Assumes nothing.
-use Rattle.std.specs.Prelude.{ℕ, Bool, false, List, [], ◌∷◌, ◌++◌, ltb}
+use Rattle.frame.specs.declared.Fault.{Fault}
+use Rattle.std.specs.Prelude.{ℕ, Bool, false, List, [], ◌∷◌, ◌++◌, ltb, Result, Ok, Err}
 use Rattle.bits.specs.Choice.{when◌then◌else◌}
-use Rattle.frame.specs.declared.Reading.{Reading}
-use Rattle.frame.specs.declared.Reading.TheVariants.{Byte, Refused}
 use Rattle.frame.specs.Frame.{read_frame}
 use Rattle.translation.specs.declared.CodeSet.{CodeSet}
 use Rattle.controller.specs.declared.PortEvent.{PortEvent}
@@ -73,9 +72,9 @@ abbrev pub where_ran : {A : Type 0} → ℕ → List A → List A
 where_ran refusal of-event = when ltb 5 refusal then [] else of-event
 
 -- what a frame feeds
-abbrev pub fed_by : Reading → List Item
-fed_by (Byte byte) = runs (Key byte) ∷ []
-fed_by (Refused fault) = []
+abbrev pub fed_by : Result ℕ Fault → List Item
+fed_by (Ok byte) = runs (Key byte) ∷ []
+fed_by (Err fault) = []
 
 -- each item by the definition of the call that it is
 unfoldable pub step_item : Service → Item → Stepped

@@ -7,13 +7,12 @@ use native.Mathlib.Omega.{arith}
 use borrow.Author.Tests.{eqb-true}
 use lib.Dec.{eqb}
 use lib.ListN.{length, take}
+use Rattle.std.specs.Prelude.{Some, None, Ok, Err}
 use Rattle.bits.specs.Choice.{when◌then◌else◌}
 use Rattle.bits.proofs.Choice.{by_test}
 use Rattle.events.specs.declared.Event.TheVariants.{Key, Call, Poll, TimeOut, Empty, Restart, Scan}
-use Rattle.pack.specs.declared.Read.{Read}
-use Rattle.pack.specs.declared.Read.TheVariants as read
 use Rattle.events.specs.Tags.{key_tag, call_tag, poll_tag, time_out_tag, empty_tag, restart_tag, scan_tag}
-use Rattle.pack.specs.Reading.{byte_of, call_of, tagged_of, first_of}
+use Rattle.pack.specs.Reading.{Read, byte_of, call_of, tagged_of, first_of}
 use Rattle.pack.specs.Encoding.{encode_event}
 use Rattle.pack.specs.Laws.{EncodedByTag, EncodedIsRead, ReadIsEncoded}
 
@@ -38,12 +37,9 @@ encoded_is_read (Scan byte) later = refl
 
 -- what the bytes of a part have to do with a reading of it
 abbrev Found : List ℕ → Read → Type 0
-Found part (read.Event event bytes) = (0 < bytes) × (bytes ≤ length part) × (take bytes part ≡ encode_event event)
-Found part read.End = part ≡ []
-Found part read.UnknownTag = Unit {0}
-Found part read.CutShort = Unit {0}
-Found part read.TooLong = Unit {0}
-Found part read.Beyond = Unit {0}
+Found part (Ok (Some (event, bytes))) = (0 < bytes) × (bytes ≤ length part) × (take bytes part ≡ encode_event event)
+Found part (Ok None) = part ≡ []
+Found part (Err refusal) = Unit {0}
 
 found_key : (operands : List ℕ) → Found (key_tag ∷ operands) (byte_of Key operands)
 found_key [] = tt
@@ -81,5 +77,5 @@ read_is_encoded part event bytes e =
     let f = subst (Found part) e (found part) in
     record { some = f.0; within = f.1; encoded = f.2; rest = rw e }
 
-pub end_is_empty : (part : List ℕ) → first_of part ≡ read.End → part ≡ []
+pub end_is_empty : (part : List ℕ) → first_of part ≡ Ok None → part ≡ []
 end_is_empty part e = subst (Found part) e (found part)

@@ -6,10 +6,10 @@ use mathlib.Core.List.{List, [], ◌∷◌, ◌++◌, append_assoc, append-nil}
 use native.Mathlib.Omega.{arith}
 use lib.ListN.{length, take, drop, length-append, length-drop}
 use lib.Seq.{take_all, drop-append_seam}
+use Rattle.std.specs.Prelude.{Some, None, Ok, Err}
 use Rattle.events.specs.declared.Event.{Event}
-use Rattle.pack.specs.declared.Read.{Read}
-use Rattle.pack.specs.declared.Read.TheVariants as read
-use Rattle.pack.specs.Reading.{limit, first_of, read_at, refusal_of}
+use Rattle.pack.specs.declared.ReadError.TheVariants.{UnknownTag, CutShort, TooLong, Beyond}
+use Rattle.pack.specs.Reading.{Read, limit, first_of, read_at, refusal_of}
 use Rattle.pack.specs.Encoding.{encode_event, encode}
 use Rattle.pack.specs.Parsing.{Parsed, stopped, event_then, parse_by, parse_from, parse}
 use Rattle.pack.specs.Laws.{PartFrom, Stops, EncodingIsRead, PackIsReadWhole, AcceptedIsEncoding, EncodesOneList}
@@ -42,8 +42,14 @@ pub encoding_is_read : EncodingIsRead
 unfolding parse
 encoding_is_read events small = reads_back (encode events) [] events small refl
 
+-- the event that was read, another where none was
+event_or : Event → Read → Event
+event_or other (Ok (Some (event, bytes))) = event
+event_or other (Ok None) = other
+event_or other (Err refusal) = other
+
 pub encodes_one_list : EncodesOneList
-unfolding encode first_of
+unfolding encode first_of event_or
 encodes_one_list [] [] e = refl
 encodes_one_list [] (other ∷ others) e =
     let never = ap first_of e ∙ encoded_is_read other (encode others) in
@@ -53,7 +59,7 @@ encodes_one_list (event ∷ later) [] e =
     cc
 encodes_one_list (event ∷ later) (other ∷ others) e =
     let both = sym (encoded_is_read event (encode later)) ∙ ap first_of e ∙ encoded_is_read other (encode others) in
-    let same : event ≡ other = cc in
+    let same : event ≡ other = ap (event_or other) both in
     let rest : encode later ≡ encode others =
     sym (drop-append_seam (encode_event event) (encode later)) ∙ ap (drop (length (encode_event event))) e ∙ rw same (drop-append_seam (encode_event other) (encode others)) in
     let alike = encodes_one_list later others rest in
@@ -96,13 +102,13 @@ pack_is_read_whole pack =
     }
 
 -- where reading stops with no refusal, there is the end
-ended : (found : Read) → Stops found → refusal_of found ≡ 0 → found ≡ read.End
-ended (read.Event _ _) none e = elim none [ ]
-ended read.End none e = refl
-ended read.UnknownTag none e = absurd (omega arith)
-ended read.CutShort none e = absurd (omega arith)
-ended read.TooLong none e = absurd (omega arith)
-ended read.Beyond none e = absurd (omega arith)
+ended : (found : Read) → Stops found → refusal_of found ≡ 0 → found ≡ Ok None
+ended (Ok (Some (_, _))) none e = elim none [ ]
+ended (Ok None) none e = refl
+ended (Err UnknownTag) none e = absurd (omega arith)
+ended (Err CutShort) none e = absurd (omega arith)
+ended (Err TooLong) none e = absurd (omega arith)
+ended (Err Beyond) none e = absurd (omega arith)
 
 pub accepted_is_encoding : AcceptedIsEncoding
 accepted_is_encoding pack e =

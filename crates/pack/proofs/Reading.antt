@@ -6,20 +6,17 @@ use mathlib.Core.Path.{◌≡◌, refl, ◌∙◌}
 use mathlib.Core.List.{List, [], ◌∷◌}
 use native.Mathlib.Omega.{arith}
 use borrow.Author.Tests.{lt-ltb, le-ltb, ltb-true, ltb-false}
-use denote.Enum.Declared.{tag_of}
-use types.Run.{OneOf, miss}
 use lib.Dec.{ltb}
 use lib.ListN.{length, get_or, take, drop, length-drop, drop_of_length-le}
 use lib.Seq.{take_all}
+use Rattle.std.specs.Prelude.{Some, None, Ok, Err}
 use Rattle.bits.specs.Choice.{when◌then◌else◌}
 use Rattle.bits.proofs.Choice.{by_test}
 use Rattle.events.specs.declared.Event.{Event}
 use Rattle.events.specs.declared.Event.TheVariants.{Call}
-use Rattle.pack.specs.declared.Read.{Read}
-use Rattle.pack.specs.declared.Read.TheVariants as read
-use Rattle.pack.specs.Reading.{limit, byte_of, call_of, tagged_of, first_of, read_at, part_at, rest_of}
+use Rattle.pack.specs.declared.ReadError.TheVariants.{CutShort, TooLong, Beyond}
+use Rattle.pack.specs.Reading.{Read, limit, byte_of, call_of, tagged_of, first_of, read_at, part_at, rest_of}
 use Rattle.pack.specs.Laws.{Stops}
-use Rattle.pack.specs.contracts.Read as declared
 
 -- a part that ends where its slice ends
 pub to_end : (start : ℕ) (bytes : List ℕ) → take (length bytes - start) (drop start bytes) ≡ drop start bytes
@@ -29,28 +26,28 @@ to_end start bytes = take_all (length bytes - start) (drop start bytes) (simp le
 pub by_order : {Q : Type 0} (a b : ℕ) → (a < b → Q) → (b ≤ a → Q) → Q
 by_order {Q = Q} a b less not-less = by_test (λ (_ : Bool). Q) (ltb a b) true false (λ e. less (ltb-true a b e)) (λ e. not-less (ltb-false a b e))
 
-pub byte_cut : (event : ℕ → Event) (operands : List ℕ) → length operands < 1 → byte_of event operands ≡ read.CutShort
+pub byte_cut : (event : ℕ → Event) (operands : List ℕ) → length operands < 1 → byte_of event operands ≡ Err CutShort
 byte_cut event [] short = refl
 byte_cut event (byte ∷ later) short = absurd (omega arith)
 
-pub byte_whole : (event : ℕ → Event) (operands : List ℕ) → 1 ≤ length operands → byte_of event operands ≡ read.Event (event (get_or operands 0 0)) 2
+pub byte_whole : (event : ℕ → Event) (operands : List ℕ) → 1 ≤ length operands → byte_of event operands ≡ Ok (Some (event (get_or operands 0 0), 2))
 byte_whole event [] long = absurd (omega arith)
 byte_whole event (byte ∷ later) long = refl
 
-pub call_cut : (operands : List ℕ) → length operands < 3 → call_of operands ≡ read.CutShort
+pub call_cut : (operands : List ℕ) → length operands < 3 → call_of operands ≡ Err CutShort
 call_cut [] short = refl
 call_cut (function ∷ []) short = refl
 call_cut (function ∷ a ∷ []) short = refl
 call_cut (function ∷ a ∷ b ∷ later) short = absurd (omega arith)
 
 pub call_whole : (operands : List ℕ) → 3 ≤ length operands
-    → call_of operands ≡ read.Event (Call (get_or operands 0 0) (get_or operands 1 0) (get_or operands 2 0)) 4
+    → call_of operands ≡ Ok (Some (Call (get_or operands 0 0) (get_or operands 1 0) (get_or operands 2 0), 4))
 call_whole [] long = absurd (omega arith)
 call_whole (function ∷ []) long = absurd (omega arith)
 call_whole (function ∷ a ∷ []) long = absurd (omega arith)
 call_whole (function ∷ a ∷ b ∷ later) long = refl
 
-pub first_none : (part : List ℕ) → length part < 1 → first_of part ≡ read.End
+pub first_none : (part : List ℕ) → length part < 1 → first_of part ≡ Ok None
 unfolding first_of
 first_none [] none = refl
 first_none (tag ∷ operands) none = absurd (omega arith)
@@ -60,11 +57,11 @@ unfolding first_of
 first_some [] some = absurd (omega arith)
 first_some (tag ∷ operands) some = refl
 
-pub read_too_long : (pack : List ℕ) (start : ℕ) → limit < length pack → read_at pack start ≡ read.TooLong
+pub read_too_long : (pack : List ℕ) (start : ℕ) → limit < length pack → read_at pack start ≡ Err TooLong
 unfolding read_at when◌then◌else◌
 read_too_long pack start long = simp (lt-ltb limit (length pack) long)
 
-pub read_beyond : (pack : List ℕ) (start : ℕ) → length pack ≤ limit → length pack < start → read_at pack start ≡ read.Beyond
+pub read_beyond : (pack : List ℕ) (start : ℕ) → length pack ≤ limit → length pack < start → read_at pack start ≡ Err Beyond
 unfolding read_at when◌then◌else◌
 read_beyond pack start small beyond = simp (le-ltb limit (length pack) small, lt-ltb (length pack) start beyond)
 
@@ -83,20 +80,8 @@ part_within pack start small = simp (le-ltb limit (length pack) small)
 pub part_beyond : (pack : List ℕ) (start : ℕ) → length pack ≤ limit → length pack < start → part_at pack start ≡ []
 part_beyond pack start small beyond = part_within pack start small ∙ drop_of_length-le pack {i = start} (omega arith)
 
--- what is not the first variant is no event
-pub no_event : (found : Read) → ((event : Event) (bytes : ℕ) → found ≡ read.Event event bytes → ⊥) → Stops found
-no_event (read.Event event bytes) other = absurd (other event bytes refl)
-no_event read.End other = tt
-no_event read.UnknownTag other = tt
-no_event read.CutShort other = tt
-no_event read.TooLong other = tt
-no_event read.Beyond other = tt
-
 -- a part with no event is handed on as it is
 pub kept : (found : Read) (part : List ℕ) → Stops found → rest_of found part ≡ part
-kept (read.Event _ _) part none = elim none [ ]
-kept read.End part none = refl
-kept read.UnknownTag part none = refl
-kept read.CutShort part none = refl
-kept read.TooLong part none = refl
-kept read.Beyond part none = refl
+kept (Ok (Some (_, _))) part none = elim none [ ]
+kept (Ok None) part none = refl
+kept (Err refusal) part none = refl

@@ -6,11 +6,10 @@ use mathlib.Core.List.{List, [], ◌++◌}
 use native.Mathlib.Omega.{arith}
 use lib.ListN.{length, take, drop, length-drop, drop_of_length-le}
 use lib.Seq.{take-add, drop-drop}
+use Rattle.std.specs.Prelude.{Some, None, Ok, Err}
 use Rattle.bits.proofs.Choice.{either}
 use Rattle.events.specs.declared.Event.{Event}
-use Rattle.pack.specs.declared.Read.{Read}
-use Rattle.pack.specs.declared.Read.TheVariants as read
-use Rattle.pack.specs.Reading.{limit, first_of, read_at, part_at, refusal_of}
+use Rattle.pack.specs.Reading.{Read, limit, first_of, read_at, part_at, refusal_of}
 use Rattle.pack.specs.Encoding.{encode_event}
 use Rattle.pack.specs.Parsing.{Parsed, stopped, event_then, on_read, parse_by, parse_from, parse}
 use Rattle.pack.specs.Laws.{PartFrom, Stops, Walk, TooLongIsRefused}
@@ -18,33 +17,27 @@ use Rattle.pack.proofs.Reading.{by_order, read_too_long, read_beyond, read_withi
 use Rattle.pack.proofs.Events.{read_is_encoded}
 
 -- a reading finds an event or stops
-pub by_kind : {Q : Type 0} (found : Read) → ((event : Event) (bytes : ℕ) → found ≡ read.Event event bytes → Q) → (Stops found → Q) → Q
-by_kind (read.Event event bytes) goes stops = goes event bytes refl
-by_kind read.End goes stops = stops tt
-by_kind read.UnknownTag goes stops = stops tt
-by_kind read.CutShort goes stops = stops tt
-by_kind read.TooLong goes stops = stops tt
-by_kind read.Beyond goes stops = stops tt
+pub by_kind : {Q : Type 0} (found : Read) → ((event : Event) (bytes : ℕ) → found ≡ Ok (Some (event, bytes)) → Q) → (Stops found → Q) → Q
+by_kind (Ok (Some (event, bytes))) goes stops = goes event bytes refl
+by_kind (Ok None) goes stops = stops tt
+by_kind (Err refusal) goes stops = stops tt
 
 on_stop : (found : Read) (start : ℕ) (from : ℕ → Parsed) → Stops found → on_read found start from ≡ stopped start (refusal_of found)
-on_stop (read.Event _ _) start from none = elim none [ ]
-on_stop read.End start from none = refl
-on_stop read.UnknownTag start from none = refl
-on_stop read.CutShort start from none = refl
-on_stop read.TooLong start from none = refl
-on_stop read.Beyond start from none = refl
+on_stop (Ok (Some (_, _))) start from none = elim none [ ]
+on_stop (Ok None) start from none = refl
+on_stop (Err refusal) start from none = refl
 
 -- an event or the end that is read at a start stands first in the part from there on
-pub event_there : (pack : List ℕ) (start : ℕ) (event : Event) (bytes : ℕ) → read_at pack start ≡ read.Event event bytes → first_of (drop start pack) ≡ read.Event event bytes
+pub event_there : (pack : List ℕ) (start : ℕ) (event : Event) (bytes : ℕ) → read_at pack start ≡ Ok (Some (event, bytes)) → first_of (drop start pack) ≡ Ok (Some (event, bytes))
 unfolding read_at
 event_there pack start event bytes =
-    let Is : Read → Type 0 = λ found. found ≡ read.Event event bytes → first_of (drop start pack) ≡ read.Event event bytes in
+    let Is : Read → Type 0 = λ found. found ≡ Ok (Some (event, bytes)) → first_of (drop start pack) ≡ Ok (Some (event, bytes)) in
     either Is _ _ _ (λ e. cc) (either Is _ _ _ (λ e. cc) (λ e. e))
 
-pub end_there : (pack : List ℕ) (start : ℕ) → read_at pack start ≡ read.End → first_of (drop start pack) ≡ read.End
+pub end_there : (pack : List ℕ) (start : ℕ) → read_at pack start ≡ Ok None → first_of (drop start pack) ≡ Ok None
 unfolding read_at
 end_there pack start =
-    let Is : Read → Type 0 = λ found. found ≡ read.End → first_of (drop start pack) ≡ read.End in
+    let Is : Read → Type 0 = λ found. found ≡ Ok None → first_of (drop start pack) ≡ Ok None in
     either Is _ _ _ (λ e. cc) (either Is _ _ _ (λ e. cc) (λ e. e))
 
 -- the bytes of an event at a start
@@ -53,7 +46,7 @@ pub record EventAt (pack : List ℕ) (start : ℕ) (event : Event) (bytes : ℕ)
   pub within : start + bytes ≤ length pack
   pub encoded : take (start + bytes) pack ≡ take start pack ++ encode_event event
 
-pub event_at : (pack : List ℕ) (start : ℕ) (event : Event) (bytes : ℕ) → read_at pack start ≡ read.Event event bytes → EventAt pack start event bytes
+pub event_at : (pack : List ℕ) (start : ℕ) (event : Event) (bytes : ℕ) → read_at pack start ≡ Ok (Some (event, bytes)) → EventAt pack start event bytes
 event_at pack start event bytes e =
     let first = read_is_encoded (drop start pack) event bytes (event_there pack start event bytes e) in
     record {
@@ -62,7 +55,7 @@ event_at pack start event bytes e =
       encoded = take-add start bytes pack ∙ rw first.encoded;
     }
 
-pub by_next : (n : ℕ) (pack : List ℕ) (start : ℕ) (event : Event) (bytes : ℕ) → read_at pack start ≡ read.Event event bytes
+pub by_next : (n : ℕ) (pack : List ℕ) (start : ℕ) (event : Event) (bytes : ℕ) → read_at pack start ≡ Ok (Some (event, bytes))
     → parse_by (suc n) pack start ≡ event_then event (parse_by n pack (start + bytes))
 unfolding parse_by
 by_next n pack start event bytes e = rw e
@@ -84,7 +77,7 @@ enough (suc n) (suc m) pack start h k =
     ∙ sym (by_next m pack start event bytes e))
     (λ none. by_stop n pack start none ∙ sym (by_stop m pack start none))
 
-pub from_next : (pack : List ℕ) (start : ℕ) (event : Event) (bytes : ℕ) → read_at pack start ≡ read.Event event bytes
+pub from_next : (pack : List ℕ) (start : ℕ) (event : Event) (bytes : ℕ) → read_at pack start ≡ Ok (Some (event, bytes))
     → parse_from pack start ≡ event_then event (parse_from pack (start + bytes))
 unfolding parse_from
 from_next pack start event bytes e =
@@ -96,11 +89,11 @@ agrees : (pack : List ℕ) (start : ℕ) (part : List ℕ) → PartFrom pack sta
 agrees pack start part from = rw from.same (read_within pack start from.limited (omega arith))
 
 -- no event is read of a pack that is too long
-limited : (pack : List ℕ) (start : ℕ) (event : Event) (bytes : ℕ) → read_at pack start ≡ read.Event event bytes → length pack ≤ limit
+limited : (pack : List ℕ) (start : ℕ) (event : Event) (bytes : ℕ) → read_at pack start ≡ Ok (Some (event, bytes)) → length pack ≤ limit
 limited pack start event bytes e =
     by_order limit (length pack) (λ long. absurd (subst Stops (sym (read_too_long pack start long) ∙ e) tt)) (λ small. small)
 
-pub event_within : (pack : List ℕ) (start : ℕ) (event : Event) (bytes : ℕ) → read_at pack start ≡ read.Event event bytes → start + bytes ≤ limit
+pub event_within : (pack : List ℕ) (start : ℕ) (event : Event) (bytes : ℕ) → read_at pack start ≡ Ok (Some (event, bytes)) → start + bytes ≤ limit
 event_within pack start event bytes e =
     let at = event_at pack start event bytes e in
     omega (arith, limited pack start event bytes e)
@@ -115,8 +108,8 @@ by_part pack start same none =
     (λ beyond. none (part_beyond pack start small beyond) (rw (read_beyond pack start small beyond) tt))
     (λ inside. same (rw (part_within pack start small) (read_within pack start small inside))))
 
-pub part_event : (pack : List ℕ) (start : ℕ) (event : Event) (bytes : ℕ) → first_of (part_at pack start) ≡ read.Event event bytes
-    → read_at pack start ≡ read.Event event bytes
+pub part_event : (pack : List ℕ) (start : ℕ) (event : Event) (bytes : ℕ) → first_of (part_at pack start) ≡ Ok (Some (event, bytes))
+    → read_at pack start ≡ Ok (Some (event, bytes))
 unfolding first_of
 part_event pack start event bytes e = by_part pack start (λ same. same ∙ e) (λ none stops. absurd (subst Stops (rw none at e) tt))
 

@@ -1,11 +1,9 @@
 -- What readings mean: one event, a walk over the parts of a pack, and the one list that a pack encodes. Files of proofs/ prove each sentence.
 -- Assumes nothing.
-use Rattle.std.specs.Prelude.{ℕ, ◌+◌, ◌≤◌, ◌<◌, ◌≡◌, List, [], ◌∷◌, ◌++◌, length, take, drop}
+use Rattle.std.specs.Prelude.{ℕ, ◌+◌, ◌≤◌, ◌<◌, ◌≡◌, List, [], ◌∷◌, ◌++◌, length, take, drop, Some, None, Ok, Err}
 use Rattle.events.specs.declared.Event.{Event}
 use Rattle.events.specs.Tags.{tag_of}
-use Rattle.pack.specs.declared.Read.{Read}
-use Rattle.pack.specs.declared.Read.TheVariants as read
-use Rattle.pack.specs.Reading.{limit, first_of, read_at, rest_of, refusal_of}
+use Rattle.pack.specs.Reading.{Read, limit, first_of, read_at, rest_of, refusal_of}
 use Rattle.pack.specs.Encoding.{encode_event, encode}
 use Rattle.pack.specs.Parsing.{stopped, event_then, parse_from, parse}
 
@@ -17,7 +15,7 @@ EncodedByTag = (event : Event) → take 1 (encode_event event) ≡ tag_of event 
 
 -- an encoded event is read back, whatever bytes follow it
 abbrev pub EncodedIsRead : Type 0
-EncodedIsRead = (event : Event) (later : List ℕ) → first_of (encode_event event ++ later) ≡ read.Event event (length (encode_event event))
+EncodedIsRead = (event : Event) (later : List ℕ) → first_of (encode_event event ++ later) ≡ Ok (Some (event, length (encode_event event)))
 
 -- an event that was read has a byte at least and none beyond the part, its bytes are its encoding, and the bytes after them are handed on
 pub record First (part : List ℕ) (event : Event) (bytes : ℕ) : Type 0 where
@@ -27,7 +25,7 @@ pub record First (part : List ℕ) (event : Event) (bytes : ℕ) : Type 0 where
   pub rest : rest_of (first_of part) part ≡ drop bytes part
 
 abbrev pub ReadIsEncoded : Type 0
-ReadIsEncoded = (part : List ℕ) (event : Event) (bytes : ℕ) → first_of part ≡ read.Event event bytes → First part event bytes
+ReadIsEncoded = (part : List ℕ) (event : Event) (bytes : ℕ) → first_of part ≡ Ok (Some (event, bytes)) → First part event bytes
 
 -- A walk over a pack within the limit.
 
@@ -39,12 +37,9 @@ pub record PartFrom (pack : List ℕ) (start : ℕ) (part : List ℕ) : Type 0 w
 
 -- a reading that finds no event
 abbrev pub Stops : Read → Type 0
-Stops (read.Event event bytes) = ⊥
-Stops read.End = Unit {0}
-Stops read.UnknownTag = Unit {0}
-Stops read.CutShort = Unit {0}
-Stops read.TooLong = Unit {0}
-Stops read.Beyond = Unit {0}
+Stops (Ok (Some (event, bytes))) = ⊥
+Stops (Ok None) = Unit {0}
+Stops (Err refusal) = Unit {0}
 
 -- behind an event the part handed on is again the pack's from there on, and the event stands before what is read there
 pub record GoesOn (pack : List ℕ) (start : ℕ) (part : List ℕ) (event : Event) (bytes : ℕ) : Type 0 where
@@ -55,7 +50,7 @@ pub record Walk : Type 0 where
   pub starts : (pack : List ℕ) (start : ℕ) → length pack ≤ limit → start ≤ length pack → PartFrom pack start (drop start pack)
   pub agrees : (pack : List ℕ) (start : ℕ) (part : List ℕ) → PartFrom pack start part → read_at pack start ≡ first_of part
   pub next : (pack : List ℕ) (start : ℕ) (part : List ℕ) (event : Event) (bytes : ℕ)
-      → PartFrom pack start part → first_of part ≡ read.Event event bytes → GoesOn pack start part event bytes
+      → PartFrom pack start part → first_of part ≡ Ok (Some (event, bytes)) → GoesOn pack start part event bytes
   pub stops : (pack : List ℕ) (start : ℕ) (part : List ℕ)
       → PartFrom pack start part → Stops (first_of part) → parse_from pack start ≡ stopped start (refusal_of (first_of part))
 

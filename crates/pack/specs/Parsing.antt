@@ -1,10 +1,8 @@
 -- A whole pack: its events one after the other, up to the end or to what cannot be read, as kbdtrace reads them.
 -- Assumes nothing.
-use Rattle.std.specs.Prelude.{ℕ, zero, suc, ◌+◌, ◌-◌, List, [], ◌∷◌, length}
+use Rattle.std.specs.Prelude.{ℕ, zero, suc, ◌+◌, ◌-◌, List, [], ◌∷◌, length, Some, None, Ok, Err}
 use Rattle.events.specs.declared.Event.{Event}
-use Rattle.pack.specs.declared.Read.{Read}
-use Rattle.pack.specs.declared.Read.TheVariants as read
-use Rattle.pack.specs.Reading.{read_at, refusal_of}
+use Rattle.pack.specs.Reading.{Read, read_at, refusal_of}
 
 -- the events read, the offset where reading stopped, and the refusal that stopped it, 0 at the end of the pack
 pub record Parsed : Type 0 where
@@ -20,12 +18,9 @@ event_then event later = record { events = event ∷ later.events; end = later.e
 
 -- reading goes on behind an event and stops at anything else
 abbrev pub on_read : Read → ℕ → (ℕ → Parsed) → Parsed
-on_read (read.Event event bytes) start from = event_then event (from (start + bytes))
-on_read read.End start from = stopped start (refusal_of read.End)
-on_read read.UnknownTag start from = stopped start (refusal_of read.UnknownTag)
-on_read read.CutShort start from = stopped start (refusal_of read.CutShort)
-on_read read.TooLong start from = stopped start (refusal_of read.TooLong)
-on_read read.Beyond start from = stopped start (refusal_of read.Beyond)
+on_read (Ok (Some (event, bytes))) start from = event_then event (from (start + bytes))
+on_read (Ok None) start from = stopped start (refusal_of (Ok None))
+on_read (Err refusal) start from = stopped start (refusal_of (Err refusal))
 
 -- what is read from a start on, by at most so many readings
 unfoldable pub parse_by : ℕ → List ℕ → ℕ → Parsed

@@ -1,5 +1,6 @@
 -- With no Alt down the Alt sum is 0, from a new port on.
 -- Assumes nothing.
+use Rattle.std.specs.Prelude.{Option, None, Some}
 use Prim.Native.Nat.{ℕ}
 use mathlib.Core.Path.{◌≡◌, refl, ap, sym}
 use mathlib.Core.Bool.{Bool, true, false, ◌&&◌, ◌||◌, not, true≢false}
@@ -17,8 +18,6 @@ use Rattle.port.specs.declared.Port.{Port}
 use Rattle.port.specs.declared.Shared.{Shared}
 use Rattle.port.specs.declared.Decoded.{Decoded}
 use Rattle.port.specs.declared.Effect.TheVariants.{Nothing}
-use Rattle.port.specs.declared.Digit.{Digit}
-use Rattle.port.specs.declared.Digit.TheVariants.{NoDigit, Is}
 use Rattle.port.specs.State.{either_side, with_sum, result_of}
 use Rattle.port.specs.Prefix.{reading_of}
 use Rattle.port.specs.Flags.{bare, after_e0, tracked, modifiers_after, flags_port, flags_shared, flags_changed}
@@ -47,17 +46,17 @@ entry_leaves port shared code NoWord h = record { port = h }
 entry_leaves port shared code (Has word) h = put_leaves port shared code word h
 
 -- a digit counts only with Alt
-no_digit : (alt : Bool) (code : Code) → alt ≡ false → alt_digit alt code ≡ NoDigit
+no_digit : (alt : Bool) (code : Code) → alt ≡ false → alt_digit alt code ≡ None
 unfolding alt_digit when◌then◌else◌
 no_digit alt code e = simp e
 
-counted_leaves : (digit : Digit) (port : Port) (shared : Shared) (code : Code) (entry : Entry)
-    → (either_side port.modifiers.alt ≡ false → digit ≡ NoDigit) → Leaves (counted digit port shared code entry)
+counted_leaves : (digit : Option ℕ) (port : Port) (shared : Shared) (code : Code) (entry : Entry)
+    → (either_side port.modifiers.alt ≡ false → digit ≡ None) → Leaves (counted digit port shared code entry)
 unfolding counted typed
-counted_leaves NoDigit port shared code entry h =
+counted_leaves None port shared code entry h =
     either Leaves _ _ _ (record { port = zeroed (with_sum port 0) refl }) (entry_leaves (with_sum port 0) shared code entry (zeroed (with_sum port 0) refl))
-counted_leaves (Is digit) port shared code entry h =
-    record { port = record { zero = λ up. let e : Is digit ≡ NoDigit = h up in cc } }
+counted_leaves (Some digit) port shared code entry h =
+    record { port = record { zero = λ up. let e : Some digit ≡ None = h up in cc } }
 
 made_leaves : (port : Port) (shared : Shared) (code : Code) (entry : Entry) → SumSettled port → Leaves (made_of port shared code entry)
 unfolding made_of entered

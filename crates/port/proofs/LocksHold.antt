@@ -1,5 +1,6 @@
 -- Only the lock keys and the Insert word change a lock.
 -- Assumes nothing.
+use Rattle.std.specs.Prelude.{Option, None, Some}
 use Prim.Native.Nat.{ℕ}
 use mathlib.Core.Path.{◌≡◌, refl}
 use mathlib.Core.Bool.{Bool, true, false, ◌&&◌, not}
@@ -21,8 +22,6 @@ use Rattle.port.specs.declared.Reading.TheVariants.{Overrun, Opens, Pauses, Paus
 use Rattle.port.specs.declared.Port.{Port}
 use Rattle.port.specs.declared.Shared.{Shared}
 use Rattle.port.specs.declared.Effect.{Effect}
-use Rattle.port.specs.declared.Digit.{Digit}
-use Rattle.port.specs.declared.Digit.TheVariants.{NoDigit, Is}
 use Rattle.port.specs.State.{either_side, with_prefix, with_sum, result_of}
 use Rattle.port.specs.Prefix.{opened, continued, reading_of}
 use Rattle.port.specs.Flags.{toggled, bare, locks_after, flags_changed}
@@ -87,11 +86,11 @@ entry_keeps port shared code NoRow = same shared shared code.scan.0 port _ refl
 entry_keeps port shared code NoWord = same shared shared code.scan.0 port _ refl
 entry_keeps port shared code (Has word) = put_keeps port shared code word
 
-counted_keeps : (digit : Digit) (port : Port) (shared : Shared) (code : Code) (entry : Entry) → LocksKept shared code.scan.0 (counted digit port shared code entry)
+counted_keeps : (digit : Option ℕ) (port : Port) (shared : Shared) (code : Code) (entry : Entry) → LocksKept shared code.scan.0 (counted digit port shared code entry)
 unfolding counted typed
-counted_keeps NoDigit port shared code entry =
+counted_keeps None port shared code entry =
     either (LocksKept shared code.scan.0) _ _ _ (same shared shared code.scan.0 _ _ refl) (entry_keeps (with_sum port 0) shared code entry)
-counted_keeps (Is digit) port shared code entry = same shared shared code.scan.0 _ _ refl
+counted_keeps (Some digit) port shared code entry = same shared shared code.scan.0 _ _ refl
 
 made_keeps : (port : Port) (shared : Shared) (code : Code) (entry : Entry) → LocksKept shared code.scan.0 (made_of port shared code entry)
 unfolding made_of entered

@@ -1,6 +1,6 @@
 -- Steps 5 to 9: a make with a row.
 -- Assumes nothing.
-use Rattle.std.specs.Prelude.{Bool, false, ◌&&◌, ◌||◌, not, eqb}
+use Rattle.std.specs.Prelude.{Bool, false, ◌&&◌, ◌||◌, not, eqb, Option, None, Some, ℕ}
 use Rattle.bits.specs.Choice.{when◌then◌else◌}
 use Rattle.bits.specs.Bits.{toggle}
 use Rattle.word.specs.declared.Word.{Word}
@@ -17,8 +17,6 @@ use Rattle.port.specs.declared.Locks.{Locks}
 use Rattle.port.specs.declared.Shared.{Shared}
 use Rattle.port.specs.declared.Decoded.{Decoded}
 use Rattle.port.specs.declared.Effect.TheVariants.{Nothing, Put, Break, RestartAsked}
-use Rattle.port.specs.declared.Digit.{Digit}
-use Rattle.port.specs.declared.Digit.TheVariants.{NoDigit, Is}
 use Rattle.port.specs.State.{either_side, result_of, with_sum, with_paused}
 use Rattle.port.specs.AltEntry.{alt_digit, sum_after}
 
@@ -70,9 +68,9 @@ typed port shared code entry =
     when is_code 0x46 code.scan && code.extended then result_of port shared Break else entry_put port shared code entry
 
 -- step 7: a digit counts and is done, any other make sets the sum to 0 and goes on
-unfoldable pub counted : Digit → Port → Shared → Code → Entry → Decoded
-counted NoDigit port shared code entry = typed (with_sum port 0) shared code entry
-counted (Is digit) port shared code entry = result_of (with_sum port (sum_after port.sum digit)) shared Nothing
+unfoldable pub counted : Option ℕ → Port → Shared → Code → Entry → Decoded
+counted None port shared code entry = typed (with_sum port 0) shared code entry
+counted (Some digit) port shared code entry = result_of (with_sum port (sum_after port.sum digit)) shared Nothing
 
 unfoldable pub entered : Port → Shared → Code → Entry → Decoded
 entered port shared code entry = counted (alt_digit (either_side port.modifiers.alt) code) port shared code entry

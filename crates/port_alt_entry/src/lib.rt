@@ -1,56 +1,37 @@
 // Step 7: a character entered as a number on the keypad, with Alt down.
 #![tactic(auto)]
 
-ghost use Rattle.std.specs.Prelude.{◌≡◌};
-ghost use Rattle.port.specs.AltEntry.{digit_in, alt_digit, sum_after, sum_put, alt_ended};
+ghost use Rattle.std.specs.Prelude.{◌≡◌, position};
+ghost use Rattle.word.specs.Word.{is_code};
+ghost use Rattle.port.specs.AltEntry.{digit_keys, digit_in, alt_digit, sum_after, sum_put, alt_ended};
 
-use port::{Code, Decoded, Digit, Effect, Port, Shared};
-use word::ScanCode;
+use port::{Code, Decoded, Effect, Port, Shared};
+use word::{Ascii, ScanCode, Word};
 
-fn keypad_digit(scan: ScanCode) -> Digit
+// The codes of the digits 0 to 9.
+const DIGIT_KEYS: [u8; 10] = [0x52, 0x4F, 0x50, 0x51, 0x4B, 0x4C, 0x4D, 0x47, 0x48, 0x49];
+
+fn place(scan: ScanCode) -> Option<usize>
+    ensures { result ≡ position (λ key. is_code key scan) digit_keys }
+{
+    DIGIT_KEYS.iter().position(|&key| scan.is(key))
+}
+
+fn keypad_digit(scan: ScanCode) -> Option<u8>
     ensures { result ≡ digit_in scan }
 {
-    if scan.is(0x52) {
-        return Digit::Is(0);
-    }
-    if scan.is(0x4F) {
-        return Digit::Is(1);
-    }
-    if scan.is(0x50) {
-        return Digit::Is(2);
-    }
-    if scan.is(0x51) {
-        return Digit::Is(3);
-    }
-    if scan.is(0x4B) {
-        return Digit::Is(4);
-    }
-    if scan.is(0x4C) {
-        return Digit::Is(5);
-    }
-    if scan.is(0x4D) {
-        return Digit::Is(6);
-    }
-    if scan.is(0x47) {
-        return Digit::Is(7);
-    }
-    if scan.is(0x48) {
-        return Digit::Is(8);
-    }
-    if scan.is(0x49) {
-        return Digit::Is(9);
-    }
-    Digit::NoDigit
+    let digit = place(scan)?;
+    Some(digit as u8)
 }
 
 // The digit that a code enters: with Alt, and not after E0.
-pub fn alt_digit(alt: bool, code: Code) -> Digit
+pub fn alt_digit(alt: bool, code: Code) -> Option<u8>
     ensures { result ≡ alt_digit alt code }
 {
     if alt & !code.extended {
         return keypad_digit(code.scan);
     }
-    Digit::NoDigit
+    None
 }
 
 pub fn sum_after(sum: u8, digit: u8) -> u8
@@ -65,10 +46,11 @@ fn sum_put(sum: u8) -> Effect
     if sum == 0 {
         return Effect::Nothing;
     }
-    Effect::Put(word::joined(word::scan_code(0), word::ascii_byte(sum)))
+    Effect::Put(Word::new(ScanCode::from(0), Ascii::from(sum)))
 }
 
 // The last Alt goes up: a sum above 0 is put, and the sum becomes 0.
+#[tactic(auto, unfolding(port::specs::AltEntry::alt_ended))]
 pub fn ended(port: Port, shared: Shared) -> Decoded
     ensures { result ≡ alt_ended port shared }
 {

@@ -13,11 +13,7 @@ mod makes;
 fn no_row(entry: Entry) -> bool
     ensures { result ≡ is_no_row entry }
 {
-    match entry {
-        Entry::NoRow => true,
-        Entry::NoWord => false,
-        Entry::Has(_) => false,
-    }
+    matches!(entry, Entry::NoRow)
 }
 
 // Steps 4 to 9, with the prefix closed.
@@ -34,6 +30,7 @@ fn code_read(port: Port, shared: Shared, code: Code) -> Decoded
 }
 
 // A byte at the port, FA and FE apart.
+#[tactic(auto, unfolding(port::specs::KeyByte::key_byte_of, port::specs::KeyByte::on_reading))]
 pub fn key_byte(port: Port, shared: Shared, byte: u8) -> Decoded
     ensures { result ≡ key_byte_of port shared byte }
 {

@@ -2,17 +2,18 @@
 ghost use Rattle.std.specs.Prelude.{◌≡◌};
 ghost use Rattle.port.specs.Makes.{entry_for, is_insert, word_put, typed, entered, made_of};
 
-use port::{Code, Decoded, Digit, Effect, Held, Locks, Modifiers, Port, Shared};
+use port::{Code, Decoded, Effect, Held, Locks, Modifiers, Port, Shared};
 use rows::{Entry, Selector};
 use word::Word;
 
 // The entry of a code in the rows, by what is on.
+#[tactic(auto, unfolding(port::specs::Makes::entry_for))]
 pub fn entry_for(code: Code, modifiers: Modifiers, locks: Locks) -> Entry
     ensures { result ≡ entry_for code modifiers locks }
 {
-    let shift = port::down(modifiers.shift);
-    let ctrl = port::down(modifiers.ctrl);
-    let alt = port::down(modifiers.alt);
+    let shift = modifiers.shift.down();
+    let ctrl = modifiers.ctrl.down();
+    let alt = modifiers.alt.down();
     let selector = Selector {
         shift,
         ctrl,
@@ -27,11 +28,12 @@ pub fn entry_for(code: Code, modifiers: Modifiers, locks: Locks) -> Entry
 fn is_insert(held: Held, code: Code, word: Word) -> bool
     ensures { result ≡ is_insert held code word }
 {
-    let number = word::number(word);
+    let number = u16::from(word);
     code.scan.is(0x52) & ((number == 0x5200) | (number == 0x52E0)) & !held.insert
 }
 
 // The word is put, and the Insert rule is applied.
+#[tactic(auto, unfolding(port::specs::Makes::word_put))]
 fn put(port: Port, shared: Shared, code: Code, word: Word) -> Decoded
     ensures { result ≡ word_put port shared code word }
 {
@@ -62,13 +64,14 @@ fn type_key(port: Port, shared: Shared, code: Code, entry: Entry) -> Decoded
 }
 
 // Step 7 for a make: a digit counts, any other make ends the number.
+#[tactic(auto, unfolding(port::specs::Makes::counted, port::specs::Makes::entered))]
 fn enter(port: Port, shared: Shared, code: Code, entry: Entry) -> Decoded
     ensures { result ≡ entered port shared code entry }
 {
-    let alt = port::down(port.modifiers.alt);
+    let alt = port.modifiers.alt.down();
     match port_alt_entry::alt_digit(alt, code) {
-        Digit::NoDigit => type_key(port::with_sum(port, 0), shared, code, entry),
-        Digit::Is(digit) => {
+        None => type_key(port::with_sum(port, 0), shared, code, entry),
+        Some(digit) => {
             let sum = port_alt_entry::sum_after(port.sum, digit);
             port::result(port::with_sum(port, sum), shared, Effect::Nothing)
         }
@@ -79,8 +82,8 @@ fn enter(port: Port, shared: Shared, code: Code, entry: Entry) -> Decoded
 pub fn made(port: Port, shared: Shared, code: Code, entry: Entry) -> Decoded
     ensures { result ≡ made_of port shared code entry }
 {
-    let ctrl = port::down(port.modifiers.ctrl);
-    let alt = port::down(port.modifiers.alt);
+    let ctrl = port.modifiers.ctrl.down();
+    let alt = port.modifiers.alt.down();
     if code.scan.is(0x53) & ctrl & alt {
         return port::result(port, shared, Effect::RestartAsked);
     }

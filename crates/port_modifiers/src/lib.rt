@@ -8,6 +8,7 @@ ghost use Rattle.port_modifiers.specs.Named.{is_key, is_named};
 use port::{Code, Decoded, Effect, Held, Locks, Modifiers, Port, Shared, Sides};
 use word::ScanCode;
 
+#[tactic(auto, unfolding(port::specs::Flags::modifiers_after))]
 fn modifiers_after(modifiers: Modifiers, code: Code) -> Modifiers
     ensures { result ≡ modifiers_after modifiers code }
 {
@@ -33,6 +34,7 @@ fn modifiers_after(modifiers: Modifiers, code: Code) -> Modifiers
 }
 
 // Ins held is set with the Insert word, and only cleared here.
+#[tactic(auto, unfolding(port::specs::Flags::held_after))]
 fn held_after(held: Held, code: Code) -> Held
     ensures { result ≡ held_after held code }
 {
@@ -48,6 +50,7 @@ fn held_after(held: Held, code: Code) -> Held
 }
 
 // A make toggles its lock only where the key was up.
+#[tactic(auto, unfolding(port::specs::Flags::locks_after))]
 fn locks_after(locks: Locks, held: Held, code: Code) -> Locks
     ensures { result ≡ locks_after locks held code }
 {
@@ -70,6 +73,7 @@ fn is_key(scan: ScanCode, make: u8) -> bool
 }
 
 // Whether step 4 names the code.
+#[tactic(auto, unfolding(crate::specs::Named::is_named))]
 fn is_named(scan: ScanCode) -> bool
     ensures { result ≡ is_named scan }
 {
@@ -94,18 +98,13 @@ pub fn changed(port: Port, shared: Shared, code: Code) -> Decoded
     let modifiers = modifiers_after(port.modifiers, code);
     let held = held_after(port.held, code);
     let locks = locks_after(shared.locks, port.held, code);
-    let prefix = port.prefix;
     let next = Port {
-        prefix,
         modifiers,
         held,
-        sum: port.sum,
+        ..port
     };
-    let common = Shared {
-        locks,
-        paused: shared.paused,
-    };
-    if code.scan.is(0xB8) & !port::down(modifiers.alt) {
+    let common = Shared { locks, ..shared };
+    if code.scan.is(0xB8) & !modifiers.alt.down() {
         return port_alt_entry::ended(next, common);
     }
     port::result(next, common, Effect::Nothing)

@@ -1,10 +1,12 @@
 // Steps 2 and 3: the prefix machine.
 #![tactic(auto)]
 
-ghost use Rattle.std.specs.Prelude.{◌≡◌};
+ghost use Rattle.std.specs.Prelude.{◌≡◌, eqb, false};
+ghost use Rattle.bits.specs.Choice.{when◌then◌else◌};
 ghost use Rattle.port.specs.Prefix.{opened, continued, reading_of};
 
 use port::{Code, Prefix, Reading};
+use word::ScanCode;
 
 // The two strings that begin with E1.
 const PAUSE: [u8; 3] = [0xE1, 0x1D, 0x45];
@@ -21,7 +23,7 @@ fn opening(extended: bool, byte: u8) -> Reading
     if byte == PAUSE[0] {
         return Reading::Opens(Prefix::E1);
     }
-    let scan = word::scan_code(byte);
+    let scan = ScanCode::from(byte);
     Reading::Key(Code { scan, extended })
 }
 
@@ -37,20 +39,12 @@ fn after_e1(byte: u8) -> Reading
     opening(false, byte)
 }
 
-fn after_e1_make(byte: u8) -> Reading
-    ensures { result ≡ continued Prefix.E1Make byte }
+// The last byte of a string that begins with E1, or another.
+fn ending(last: u8, reading: Reading, byte: u8) -> Reading
+    ensures { result ≡ (when eqb byte last then reading else opened false byte) }
 {
-    if byte == PAUSE[2] {
-        return Reading::Pauses;
-    }
-    opening(false, byte)
-}
-
-fn after_e1_break(byte: u8) -> Reading
-    ensures { result ≡ continued Prefix.E1Break byte }
-{
-    if byte == PAUSE_BREAK[2] {
-        return Reading::PauseEnds;
+    if byte == last {
+        return reading;
     }
     opening(false, byte)
 }
@@ -66,7 +60,7 @@ pub fn read(prefix: Prefix, byte: u8) -> Reading
         Prefix::Closed => opening(false, byte),
         Prefix::E0 => opening(true, byte),
         Prefix::E1 => after_e1(byte),
-        Prefix::E1Make => after_e1_make(byte),
-        Prefix::E1Break => after_e1_break(byte),
+        Prefix::E1Make => ending(PAUSE[2], Reading::Pauses, byte),
+        Prefix::E1Break => ending(PAUSE_BREAK[2], Reading::PauseEnds, byte),
     }
 }

@@ -1,7 +1,8 @@
 -- What a call's definition comes to once its test is known.
 -- Assumes nothing.
-use mathlib.Core.Path.{◌≡◌}
-use mathlib.Core.Bool.{true, false}
+use Rattle.std.specs.Prelude.{None, Some, Ok, Err}
+use mathlib.Core.Path.{◌≡◌, refl}
+use mathlib.Core.Bool.{Bool, true, false}
 use Prim.Native.Nat.{◌<◌, ◌≤◌}
 use native.Mathlib.Omega.{arith}
 use borrow.Author.Tests.{eq-eqb, ne_eqb, lt-ltb, le-ltb}
@@ -9,14 +10,13 @@ use lib.ListN.{get_or}
 use Rattle.bits.specs.Choice.{when◌then◌else◌}
 use Rattle.word.specs.declared.Word.{Word}
 use Rattle.queue.specs.declared.Queue.{Queue}
-use Rattle.queue.specs.declared.Oldest.TheVariants.{None, Is}
-use Rattle.queue.specs.Queue.{capacity, blank, place_of, held_in, oldest_of, longer, put_of, shorter, rest_of}
+use Rattle.queue.specs.Queue.{capacity, blank, place_of, held_in, oldest_of, longer, put_of, stored_answer, shorter, rest_of}
 
 pub oldest_none : (queue : Queue) → held_in queue ≡ 0 → oldest_of queue ≡ None
 unfolding oldest_of when◌then◌else◌
 oldest_none queue none = simp (eq-eqb (held_in queue) 0 none)
 
-pub oldest_some : (queue : Queue) → 0 < held_in queue → oldest_of queue ≡ Is (get_or queue.words (place_of queue.head 0) blank)
+pub oldest_some : (queue : Queue) → 0 < held_in queue → oldest_of queue ≡ Some (get_or queue.words (place_of queue.head 0) blank)
 unfolding oldest_of when◌then◌else◌
 oldest_some queue some = simp (ne_eqb (held_in queue) 0 (λ none. omega arith))
 
@@ -35,3 +35,12 @@ rest_none queue none = simp (eq-eqb (held_in queue) 0 none)
 pub rest_some : (queue : Queue) → 0 < held_in queue → rest_of queue ≡ shorter queue
 unfolding rest_of when◌then◌else◌
 rest_some queue some = simp (ne_eqb (held_in queue) 0 (λ none. omega arith))
+
+-- what a put returns tells whether the word was stored
+pub was_stored : (stored : Bool) → stored_answer stored ≡ Ok tt → stored ≡ true
+was_stored true e = refl
+was_stored false e = cc
+
+pub was_dropped : (stored : Bool) → stored_answer stored ≡ Err (record {}) → stored ≡ false
+was_dropped true e = cc
+was_dropped false e = refl

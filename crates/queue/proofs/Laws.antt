@@ -15,7 +15,7 @@ use Rattle.bits.proofs.Choice.{by_test, either}
 use Rattle.word.specs.declared.Word.{Word}
 use Rattle.word.specs.Word.{is_enhanced}
 use Rattle.queue.specs.declared.Queue.{Queue}
-use Rattle.queue.specs.declared.AfterPut.{AfterPut}
+use Rattle.queue.specs.Queue.{AfterPut}
 use Rattle.queue.specs.Queue.{capacity, held_in, empty_queue, put_of, rest_of, take_of}
 use Rattle.queue.specs.Enhanced.{oldest_enhanced, starts_enhanced, past_enhanced}
 use Rattle.queue.specs.Words.{words_of, Whole, AtMostCapacity, EmptyHoldsNone, PutAppends, PutDrops, TakeRemoves, TakeOfNone, StaysWhole, QueueInRange, QueueStaysInRange, put_in, past_enhanced_in, PutAsListed, TakeAsListed, AsListed, PassesAhead, PassesAll}

@@ -1,17 +1,16 @@
 -- Document 02, W-201: what an old program may see of a queue. Enhanced words at its head are removed unseen.
 -- Assumes nothing.
-use Rattle.std.specs.Prelude.{ℕ, zero, suc, Bool, false}
+use Rattle.word.specs.declared.Word.{Word}
+use Rattle.std.specs.Prelude.{ℕ, zero, suc, Bool, false, Option, None, Some}
 use Rattle.bits.specs.Choice.{when◌then◌else◌}
 use Rattle.word.specs.Word.{is_enhanced}
 use Rattle.queue.specs.declared.Queue.{Queue}
-use Rattle.queue.specs.declared.Oldest.{Oldest}
-use Rattle.queue.specs.declared.Oldest.TheVariants.{None, Is}
 use Rattle.queue.specs.Queue.{held_in, oldest_of, rest_of}
 
 -- whether there is an oldest word and it is enhanced
-abbrev pub oldest_enhanced : Oldest → Bool
+abbrev pub oldest_enhanced : Option Word → Bool
 oldest_enhanced None = false
-oldest_enhanced (Is word) = is_enhanced word
+oldest_enhanced (Some word) = is_enhanced word
 
 abbrev pub starts_enhanced : Queue → Bool
 starts_enhanced queue = oldest_enhanced (oldest_of queue)

@@ -1,14 +1,11 @@
 -- Document 01, the queue of 15 words: what each call returns, whole, for every value of the struct.
 -- Assumes nothing.
-use Rattle.std.specs.Prelude.{ℕ, min, ◌+◌, ◌-◌, ◌%◌, true, false, eqb, ltb, get_or, set, replicate}
+use Rattle.std.specs.Prelude.{ℕ, min, ◌+◌, ◌-◌, ◌%◌, Bool, true, false, ⊤, Result, Ok, Err, eqb, ltb, get_or, set, replicate, Option, None, Some}
 use Rattle.bits.specs.Choice.{when◌then◌else◌}
 use Rattle.word.specs.declared.Word.{Word}
 use Rattle.word.specs.Word.{code_of, ascii_of, word_with}
 use Rattle.queue.specs.declared.Queue.{Queue}
-use Rattle.queue.specs.declared.Oldest.{Oldest}
-use Rattle.queue.specs.declared.Oldest.TheVariants.{None, Is}
-use Rattle.queue.specs.declared.AfterPut.{AfterPut}
-use Rattle.queue.specs.declared.Taken.{Taken}
+use Rattle.queue.specs.declared.Full.{Full}
 
 -- how many words there is room for
 abbrev pub capacity : ℕ
@@ -35,13 +32,18 @@ abbrev pub held_in : Queue → ℕ
 held_in queue = min queue.count capacity
 
 -- functions 01 and 11: the oldest word, left
-unfoldable pub oldest_of : Queue → Oldest
-oldest_of queue = when eqb (held_in queue) 0 then None else Is (get_or queue.words (place_of queue.head 0) blank)
+unfoldable pub oldest_of : Queue → Option Word
+oldest_of queue = when eqb (held_in queue) 0 then None else Some (get_or queue.words (place_of queue.head 0) blank)
 
 -- one word more, behind the newest
 abbrev pub longer : Queue → Word → Queue
 longer queue word =
     record { words = set queue.words (place_of queue.head (held_in queue)) word; head = queue.head; count = held_in queue + 1 }
+
+-- what a put leaves: a word that is not stored is dropped
+pub record AfterPut : Type 0 where
+  pub stored : Bool
+  pub queue : Queue
 
 -- a word put: stored where there is room, else dropped
 unfoldable pub put_of : Queue → Word → AfterPut
@@ -50,12 +52,22 @@ put_of queue word =
     then record { stored = true; queue = longer queue word }
     else record { stored = false; queue = queue }
 
+-- what a put returns
+abbrev pub stored_answer : Bool → Result ⊤ Full
+stored_answer true = Ok tt
+stored_answer false = Err (record {})
+
 -- the words after the oldest
 abbrev pub shorter : Queue → Queue
 shorter queue = record { words = queue.words; head = place_of queue.head 1; count = held_in queue - 1 }
 
 unfoldable pub rest_of : Queue → Queue
 rest_of queue = when eqb (held_in queue) 0 then queue else shorter queue
+
+-- what a take gives and leaves
+pub record Taken : Type 0 where
+  pub oldest : Option Word
+  pub queue : Queue
 
 -- functions 00 and 10: the oldest word, removed
 unfoldable pub take_of : Queue → Taken

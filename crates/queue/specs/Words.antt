@@ -1,12 +1,10 @@
 -- What a queue means: the list of its words, oldest first, and what each call does to it. Laws.antt of proofs/ proves each sentence.
 -- Assumes nothing.
-use Rattle.std.specs.Prelude.{ℕ, zero, suc, ◌%◌, ◌<◌, ◌≤◌, ◌≡◌, Bool, true, false, List, [], ◌∷◌, ◌++◌, ltb, length, get_or}
+use Rattle.std.specs.Prelude.{ℕ, zero, suc, ◌%◌, ◌<◌, ◌≤◌, ◌≡◌, Bool, true, false, List, [], ◌∷◌, ◌++◌, ltb, length, get_or, Option, None, Some}
 use Rattle.bits.specs.Choice.{when◌then◌else◌}
 use Rattle.word.specs.declared.Word.{Word}
 use Rattle.word.specs.Word.{is_enhanced}
 use Rattle.queue.specs.declared.Queue.{Queue}
-use Rattle.queue.specs.declared.Oldest.{Oldest}
-use Rattle.queue.specs.declared.Oldest.TheVariants.{None, Is}
 use Rattle.queue.specs.Queue.{capacity, array_length, blank, held_in, empty_queue, oldest_of, put_of, take_of}
 use Rattle.queue.specs.Enhanced.{past_enhanced}
 
@@ -45,7 +43,7 @@ PutDrops = (queue : Queue) (word : Word) → length (words_of queue) ≡ capacit
 
 -- a take gives the oldest word and leaves those after it
 pub record Removed (queue : Queue) (word : Word) (later : List Word) : Type 0 where
-  pub oldest : (take_of queue).oldest ≡ Is word
+  pub oldest : (take_of queue).oldest ≡ Some word
   pub words : words_of (take_of queue).queue ≡ later
 
 abbrev pub TakeRemoves : Type 0
@@ -81,9 +79,9 @@ has_room words = ltb (length words) capacity
 unfoldable pub put_in : List Word → Word → List Word
 put_in words word = when has_room words then words ++ (word ∷ []) else words
 
-abbrev pub oldest_in : List Word → Oldest
+abbrev pub oldest_in : List Word → Option Word
 oldest_in [] = None
-oldest_in (word ∷ later) = Is word
+oldest_in (word ∷ later) = Some word
 
 abbrev pub rest_in : List Word → List Word
 rest_in [] = []

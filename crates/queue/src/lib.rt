@@ -3,17 +3,17 @@
 #![tactic(auto)]
 
 ghost use Rattle.std.specs.Prelude.{◌≡◌};
-ghost use Rattle.queue.specs.Queue.{empty_queue, place_of, held_in, oldest_of, rest_of, put_of, take_of};
+ghost use Rattle.queue.specs.Queue.{empty_queue, place_of, held_in, oldest_of, rest_of, put_of, stored_answer, take_of};
 ghost use Rattle.queue.specs.Enhanced.{starts_enhanced, past_enhanced};
 
-use word::Word;
+use word::{Ascii, ScanCode, Word};
 
-const CAPACITY: usize = 15;
+pub const CAPACITY: usize = 15;
 
 // One place more than words, never used: 32 bytes are copied in whole pieces, 30 are not.
 const PLACES: usize = 16;
 
-// The words from the place `head` on, `count` of them, round the first 15 places.
+// The words from the place `head` on, `count` of them, round the first 15 places: fixed memory, without a heap, as C has the three fields.
 #[derive(Clone, Copy)]
 pub struct Queue {
     pub count: usize,
@@ -21,32 +21,16 @@ pub struct Queue {
     pub head: usize,
 }
 
-// The oldest word of a queue, if it has one.
+// Why a word is not put.
 #[derive(Clone, Copy)]
-pub enum Oldest {
-    None,
-    Is(Word),
-}
-
-// What a put leaves: a word that is not stored is dropped.
-#[derive(Clone, Copy)]
-pub struct AfterPut {
-    pub stored: bool,
-    pub queue: Queue,
-}
-
-// What a take gives and leaves.
-#[derive(Clone, Copy)]
-pub struct Taken {
-    pub oldest: Oldest,
-    pub queue: Queue,
-}
+pub struct Full;
 
 // The one empty queue.
+#[tactic(auto, unfolding(crate::specs::Queue::empty_queue))]
 pub fn empty() -> Queue
     ensures { result ≡ empty_queue }
 {
-    let blank = word::joined(word::scan_code(0), word::ascii_byte(0));
+    let blank = Word::new(ScanCode::from(0), Ascii::from(0));
     Queue {
         words: [blank; PLACES],
         head: 0,
@@ -61,89 +45,74 @@ fn place(head: usize, older: usize) -> usize
     (head % CAPACITY + older % CAPACITY) % CAPACITY
 }
 
-// How many words the queue holds.
-fn held(queue: Queue) -> usize
-    ensures { result ≡ held_in queue }
-{
-    let count = queue.count;
-    if count < CAPACITY { count } else { CAPACITY }
-}
+impl Queue {
+    // How many words the queue holds.
+    fn held(&self) -> usize
+        ensures { result ≡ held_in self.now }
+    {
+        self.count.min(CAPACITY)
+    }
 
-// The oldest word, left where it is.
-pub fn first(queue: Queue) -> Oldest
-    ensures { result ≡ oldest_of queue }
-{
-    if queue.count == 0 {
-        return Oldest::None;
+    // The oldest word, left where it is.
+    pub fn first(&self) -> Option<Word>
+        ensures { result ≡ oldest_of self.now }
+    {
+        if self.count == 0 {
+            return None;
+        }
+        Some(self.words[place(self.head, 0)])
     }
-    let at = place(queue.head, 0);
-    Oldest::Is(queue.words[at])
-}
 
-// The word after the newest; a full queue stays as it is.
-pub fn put(queue: Queue, word: Word) -> AfterPut
-    ensures { result ≡ put_of queue word }
-{
-    let count = held(queue);
-    if CAPACITY <= count {
-        return AfterPut {
-            stored: false,
-            queue,
-        };
+    // The word after the newest; a full queue stays as it is.
+    pub fn put(&mut self, word: Word) -> Result<(), Full>
+        ensures answer { result ≡ stored_answer (put_of self.old word).stored }
+        ensures left { self.new ≡ (put_of self.old word).queue }
+    {
+        let count = self.held();
+        if CAPACITY <= count {
+            return Err(Full);
+        }
+        self.words[place(self.head, count)] = word;
+        self.count = count + 1;
+        Ok(())
     }
-    let at = place(queue.head, count);
-    let mut longer = queue;
-    longer.words[at] = word;
-    longer.count = count + 1;
-    AfterPut {
-        stored: true,
-        queue: longer,
-    }
-}
 
-// The queue without its oldest word; an empty queue stays as it is.
-fn rest(queue: Queue) -> Queue
-    ensures { result ≡ rest_of queue }
-{
-    let count = held(queue);
-    if count == 0 {
-        return queue;
+    // The queue loses its oldest word; an empty queue stays as it is.
+    fn advance(&mut self)
+        ensures { self.new ≡ rest_of self.old }
+    {
+        let count = self.held();
+        if count == 0 {
+            return;
+        }
+        self.head = place(self.head, 1);
+        self.count = count - 1;
     }
-    let mut shorter = queue;
-    shorter.head = place(queue.head, 1);
-    shorter.count = count - 1;
-    shorter
-}
 
-// The oldest word, removed.
-pub fn take(queue: Queue) -> Taken
-    ensures { result ≡ take_of queue }
-{
-    let oldest = first(queue);
-    let left = rest(queue);
-    Taken {
-        oldest,
-        queue: left,
+    // The oldest word, removed.
+    #[tactic(auto, unfolding(crate::specs::Queue::take_of))]
+    pub fn take(&mut self) -> Option<Word>
+        ensures answer { result ≡ (take_of self.old).oldest }
+        ensures left { self.new ≡ (take_of self.old).queue }
+    {
+        let oldest = self.first();
+        self.advance();
+        oldest
     }
-}
 
-// Whether the oldest word is enhanced.
-pub fn starts_enhanced(queue: Queue) -> bool
-    ensures { result ≡ starts_enhanced queue }
-{
-    match first(queue) {
-        Oldest::None => false,
-        Oldest::Is(word) => word::is_enhanced(word),
+    // Whether the oldest word is enhanced.
+    pub fn starts_enhanced(&self) -> bool
+        ensures { result ≡ starts_enhanced self.now }
+    {
+        self.first().is_some_and(Word::is_enhanced)
     }
-}
 
-// The queue from its first word on that is not enhanced, for functions 00 and 01.
-pub fn past_enhanced(queue: Queue) -> Queue
-    ensures { result ≡ past_enhanced queue }
-{
-    let mut seen = queue;
-    while starts_enhanced(seen) {
-        seen = rest(seen);
+    // Enhanced words before the first other word are removed, for functions 00 and 01.
+    pub fn pass_enhanced(&mut self)
+        ensures { self.new ≡ past_enhanced self.old }
+    {
+        while self.starts_enhanced() {
+            self.advance();
+        }
     }
-    seen
 }

@@ -1,13 +1,15 @@
 -- The reporter: refusal 9 before the event runs, else the event, its report at the start of the buffer, and the tail kept.
 -- Assumes nothing.
-use Rattle.std.specs.Prelude.{ℕ, ◌-◌, Bool, List, [], ◌∷◌, ◌++◌, ltb, length, drop}
+use Rattle.std.specs.Prelude.{ℕ, ◌-◌, Bool, List, [], ◌∷◌, ◌++◌, ltb, length, drop, Result, Ok, Err}
 use Rattle.bits.specs.Choice.{when◌then◌else◌}
+use Rattle.answers.specs.Answers.{refusal_number}
 use Rattle.state.specs.declared.Service.{Service}
 use Rattle.events.specs.declared.Event.{Event}
 use Rattle.events.specs.Step.{step_of}
 use Rattle.events.specs.Run.{next}
 use Rattle.report.specs.declared.Report.{Report}
-use Rattle.report.specs.declared.Reported.{Reported}
+use Rattle.report.specs.declared.ReportRefusal.{ReportRefusal}
+use Rattle.report.specs.declared.ReportRefusal.TheVariants.{Call, ShortBuffer}
 use Rattle.report.specs.Report.{report_of}
 use Rattle.report.specs.Text.{text_of}
 
@@ -26,6 +28,21 @@ refusal_in ans = ans - 0x80
 -- refusal 9: a buffer under 44 bytes
 abbrev pub too_short : List ℕ → Bool
 too_short buffer = ltb (length buffer) report_length
+
+-- what a reported event leaves, and the number of its refusal, 0 for none
+pub record Reported : Type 0 where
+  pub refusal : ℕ
+  pub service : Service
+
+-- 2 to 5 a call that is refused, 9 a short buffer
+abbrev pub report_refusal_number : ReportRefusal → ℕ
+report_refusal_number (Call refusal) = refusal_number refusal
+report_refusal_number ShortBuffer = 9
+
+-- what a result says: the service that it gives and 0, or the number of the refusal and the service as it was
+abbrev pub told_by : Service → Result Service ReportRefusal → Reported
+told_by service (Ok after) = record { refusal = 0; service = after }
+told_by service (Err refusal) = record { refusal = report_refusal_number refusal; service = service }
 
 -- 9 runs no event; an event that is run may be a call that 2 to 5 refuse, and then gives that number
 unfoldable pub reported_of : Service → Event → List ℕ → Reported

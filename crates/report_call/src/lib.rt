@@ -2,10 +2,11 @@
 #![tactic(auto)]
 
 ghost use Rattle.std.specs.Prelude.{◌≡◌};
-ghost use Rattle.report.specs.Reported.{refusal_in, reported_of, buffer_of};
+ghost use Rattle.report.specs.Reported.{refusal_in, told_by, reported_of, buffer_of};
 
+use answers::Answer;
 use events::Event;
-use report::Reported;
+use report::ReportRefusal;
 use state::Service;
 
 // The number of the refusal that an ans shows, 0 if it shows none.
@@ -18,23 +19,24 @@ pub fn refusal(ans: u8) -> u8
     ans - 0x80
 }
 
-// Runs an event and writes its report to the start of the buffer; a buffer that is too short is refused before the event runs.
-pub fn report_event(service: Service, event: Event, buffer: &mut [u8]) -> Reported
-    ensures value { result ≡ reported_of service event buffer.old }
+// Runs an event and writes its report to the start of the buffer; a buffer that is too short is refused before the event runs. A refusal leaves the
+// service as it was.
+pub fn report_event(
+    service: Service,
+    event: Event,
+    buffer: &mut [u8],
+) -> Result<Service, ReportRefusal>
+    ensures value { told_by service result ≡ reported_of service event buffer.old }
     ensures buffer_after { buffer.new ≡ buffer_of service event buffer.old }
 {
     if buffer.len() < report::LENGTH {
-        return Reported {
-            refusal: 9,
-            service,
-        };
+        return Err(ReportRefusal::ShortBuffer);
     }
     let outcome = service::step(service, event);
     let report = report::report_of(event, outcome);
     report_text::write(report, buffer);
-    let after = outcome.service;
-    Reported {
-        refusal: refusal(report.ans),
-        service: after,
+    match outcome.answer {
+        Answer::Refused(refusal) => Err(ReportRefusal::Call(refusal)),
+        _ => Ok(outcome.service),
     }
 }

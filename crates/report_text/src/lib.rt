@@ -11,6 +11,7 @@ use report::{LENGTH, Report};
 const BLANK: [u8; LENGTH] = *b"ev=.\nans=..\nword=....\nflags=........\nsent=.\n";
 
 // The five lines go to the buffer whole and are filled in there, which takes fewer writes than to make the text first and copy it.
+#[tactic(auto, unfolding(report::specs::Text::text_of))]
 fn fill(report: Report, buffer: &mut [u8])
     requires { 44 ≤ length buffer.old }
     ensures { buffer.new ≡ text_of report ++ drop 44 buffer.old }

@@ -6,9 +6,9 @@ ghost use Rattle.rows.specs.Lookup.{lookup_of};
 ghost use Rattle.rows_tables.specs.Layout.{entry_of, index_of, place_of, cell_of};
 
 use rows::{Column, Entry, Selector};
-use word::ScanCode;
+use word::{ScanCode, Word};
 
-// The 78 rows in ascending code: plain, shift, ctrl, alt. 0 is "-", since no row holds the word 0000.
+// The 78 rows in ascending code: plain, shift, ctrl, alt, as document 01 prints them. 0 is "-", since no row holds the word 0000.
 const ROWS: [[u16; 4]; 78] = [
     [0x011B, 0x011B, 0x011B, 0x0000],
     [0x0231, 0x0221, 0x0000, 0x7800],
@@ -108,7 +108,7 @@ const EXTENDED_ROWS: [[u16; 4]; 14] = [
     [0x53E0, 0x53E0, 0x0000, 0x0000],
 ];
 
-// The place of a code's row in ROWS, 92 for none: eight codes to a line, from 00 on.
+// The place of a code's row in ROWS: eight codes to a line, from 00 on. None is 92 and no `Option`, which would write `Some` 92 times over.
 const PLACES: [[u8; 8]; 12] = [
     [92, 0, 1, 2, 3, 4, 5, 6],
     [7, 8, 9, 10, 11, 12, 13, 14],
@@ -143,12 +143,7 @@ const EXTENDED_PLACES: [[u8; 8]; 12] = [
 fn index(column: Column) -> usize
     ensures { result ≡ index_of column }
 {
-    match column {
-        Column::Plain => 0,
-        Column::Shift => 1,
-        Column::Ctrl => 2,
-        Column::Alt => 3,
-    }
+    column as usize
 }
 
 // The entry that a number of a table stands for.
@@ -158,7 +153,7 @@ fn entry_of(number: u16) -> Entry
     if number == 0 {
         return Entry::NoWord;
     }
-    Entry::Has(word::from_number(number))
+    Entry::Has(Word::from(number))
 }
 
 fn place(extended: bool, code: ScanCode) -> u8

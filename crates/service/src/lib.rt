@@ -7,17 +7,10 @@ ghost use Rattle.events.specs.Frames.{frame_step_of};
 
 use answers::{Answer, Refusal};
 use events::{Event, Outcome};
-use frame::Reading;
 use state::{Device, Service};
 
-// A byte, and the device that sent it.
-#[derive(Clone, Copy)]
-struct Incoming {
-    device: Device,
-    byte: u8,
-}
-
 // The queue is emptied.
+#[tactic(auto, unfolding(events::specs::Step::empty_of))]
 pub fn empty(service: Service) -> Outcome
     ensures { result ≡ empty_of service }
 {
@@ -26,37 +19,29 @@ pub fn empty(service: Service) -> Outcome
 }
 
 // One event. Bytes of both devices go one way, so that the decoder is called from one place, where the compiler puts its code.
+#[tactic(auto, unfolding(events::specs::Step::step_of))]
 pub fn step(service: Service, event: Event) -> Outcome
     ensures { result ≡ step_of service event }
 {
-    let incoming = match event {
-        Event::Key(byte) => Incoming {
-            device: Device::Keyboard,
-            byte,
-        },
+    let (device, byte) = match event {
+        Event::Key(byte) => (Device::Keyboard, byte),
+        Event::Scan(byte) => (Device::Scanner, byte),
         Event::Call(function, a, b) => return events_functions::call(service, function, a, b),
         Event::Poll => return events_commands::poll(service),
         Event::TimeOut => return events_commands::time_out(service),
         Event::Empty => return empty(service),
         Event::Restart => return events_commands::restart(service),
-        Event::Scan(scanned) => Incoming {
-            device: Device::Scanner,
-            byte: scanned,
-        },
     };
-    let device = incoming.device;
-    events_keyboard::byte(device, service, incoming.byte)
+    events_keyboard::byte(device, service, byte)
 }
 
 // One frame: the event of the byte that it carries, or refused and nothing fed.
+#[tactic(auto, unfolding(events::specs::Frames::frame_step_of))]
 pub fn frame(service: Service, frame: u16) -> Outcome
     ensures { result ≡ frame_step_of service frame }
 {
     match frame::read(frame) {
-        Reading::Byte(byte) => step(service, Event::Key(byte)),
-        Reading::Refused(fault) => {
-            let answer = Answer::Refused(Refusal::Frame(fault));
-            events_outcomes::answered(service, answer)
-        }
+        Ok(byte) => step(service, Event::Key(byte)),
+        Err(fault) => { events_outcomes::answered(service, Answer::Refused(Refusal::Frame(fault))) }
     }
 }

@@ -10,26 +10,29 @@ use events::{Event, Outcome, PortOutcome};
 use state::Service;
 
 // What comes of a response: only a key does anything, and only a refusal has something to tell.
+#[tactic(auto, unfolding(events::specs::Controller::on_response))]
 fn on_response(service: Service, response: Response) -> Outcome
     ensures { result ≡ on_response service response }
 {
-    let answer = match response {
-        Response::Accepted => Answer::Nothing,
-        Response::Interrupt => Answer::Nothing,
-        Response::Byte(_) => Answer::Nothing,
-        Response::Key(byte) => return service::step(service, Event::Key(byte)),
-        Response::Refused(refusal) => Answer::Refused(Refusal::Port(refusal)),
-    };
-    events_outcomes::answered(service, answer)
+    match response {
+        Response::Accepted | Response::Interrupt | Response::Byte(_) => {
+            events_outcomes::answered(service, Answer::Nothing)
+        }
+        Response::Key(byte) => service::step(service, Event::Key(byte)),
+        Response::Refused(refusal) => {
+            events_outcomes::answered(service, Answer::Refused(Refusal::Port(refusal)))
+        }
+    }
 }
 
+#[tactic(auto, unfolding(events::specs::Controller::port_step_of))]
 pub fn port_event(service: Service, event: PortEvent) -> PortOutcome
     ensures { result ≡ port_step_of service event }
 {
-    let controller = service.controller;
-    let responded = controller_events::respond(controller, event);
-    let next = responded.controller;
-    let response = responded.response;
-    let outcome = on_response(state::with_controller(service, next), response);
-    PortOutcome { outcome, response }
+    let responded = controller_events::respond(service.controller, event);
+    let next = state::with_controller(service, responded.controller);
+    PortOutcome {
+        outcome: on_response(next, responded.response),
+        response: responded.response,
+    }
 }

@@ -11,7 +11,7 @@ use answers::Answer;
 use events::Outcome;
 use line::Line;
 use port::{Locks, Shared};
-use state::{Made, Ports, Service};
+use state::{MakingRefusal, Ports, Service};
 use translation::CodeSet;
 
 // A service with no key down at either port, no code marked, no word and a new controller.
@@ -35,6 +35,7 @@ fn quiet(set: CodeSet, locks: Locks, paused: bool, line: Line) -> Service
     }
 }
 
+#[tactic(auto, unfolding(state::specs::State::new_service))]
 fn new(set: CodeSet, bits: u8) -> Service
     ensures { result ≡ new_service set bits }
 {
@@ -42,22 +43,17 @@ fn new(set: CodeSet, bits: u8) -> Service
 }
 
 // A service newly made on a set, with four lock bits.
-pub fn make(set: CodeSet, bits: u8) -> Made
+pub fn make(set: CodeSet, bits: u8) -> Result<Service, MakingRefusal>
     ensures { result ≡ make_of set bits }
 {
     if 15 < bits {
-        return Made {
-            refusal: 1,
-            service: new(set, 0),
-        };
+        return Err(MakingRefusal::LockBits);
     }
-    Made {
-        refusal: 0,
-        service: new(set, bits),
-    }
+    Ok(new(set, bits))
 }
 
 // A change of set, also to the same one: it closes the mark.
+#[tactic(auto, unfolding(events::specs::Sets::change_of))]
 pub fn change(service: Service, set: CodeSet) -> Outcome
     ensures { result ≡ change_of service set }
 {
@@ -69,7 +65,6 @@ pub fn change(service: Service, set: CodeSet) -> Outcome
 pub fn resynchronise(service: Service) -> Service
     ensures { result ≡ after service (resynchronisation [] (set_in service)) }
 {
-    let codes = service.codes;
-    let set = translation::set_of(codes);
+    let set = translation::set_of(service.codes);
     quiet(set, service.shared.locks, false, line::new())
 }

@@ -1,6 +1,6 @@
 -- Document 01, "Service and events": how a service is made, and services with one part changed.
 -- Assumes nothing.
-use Rattle.std.specs.Prelude.{ℕ, Bool, false, ltb}
+use Rattle.std.specs.Prelude.{ℕ, Bool, false, ltb, Result, Ok, Err}
 use Rattle.bits.specs.Choice.{when◌then◌else◌}
 use Rattle.bits.specs.Bits.{bit0, bit1, bit2, bit3}
 use Rattle.port.specs.declared.Port.{Port}
@@ -20,7 +20,8 @@ use Rattle.state.specs.declared.Device.{Device}
 use Rattle.state.specs.declared.Device.TheVariants.{Keyboard, Scanner}
 use Rattle.state.specs.declared.Ports.{Ports}
 use Rattle.state.specs.declared.Service.{Service}
-use Rattle.state.specs.declared.Made.{Made}
+use Rattle.state.specs.declared.MakingRefusal.{MakingRefusal}
+use Rattle.state.specs.declared.MakingRefusal.TheVariants.{LockBits}
 
 -- the lock bits: bit 0 Scroll, 1 Num, 2 Caps, 3 Insert
 unfoldable pub locks_of : ℕ → Locks
@@ -52,10 +53,12 @@ with_locks set locks = quiet_of set locks false new_line
 unfoldable pub new_service : CodeSet → ℕ → Service
 new_service set bits = with_locks set (locks_of bits)
 
--- refusal 1: lock bits above 15
-unfoldable pub make_of : CodeSet → ℕ → Made
-make_of set bits =
-    when ltb 15 bits then record { refusal = 1; service = new_service set 0 } else record { refusal = 0; service = new_service set bits }
+-- 1 lock bits above 15
+abbrev pub making_refusal_number : MakingRefusal → ℕ
+making_refusal_number LockBits = 1
+
+unfoldable pub make_of : CodeSet → ℕ → Result Service MakingRefusal
+make_of set bits = when ltb 15 bits then Err LockBits else Ok (new_service set bits)
 
 -- document 02, W-206: each device has a port of its own
 abbrev pub port_of : Device → Ports → Port

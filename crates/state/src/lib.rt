@@ -2,7 +2,7 @@
 #![tactic(auto)]
 
 ghost use Rattle.std.specs.Prelude.{◌≡◌};
-ghost use Rattle.state.specs.State.{locks_of, with_queue, with_line, with_codes, with_controller};
+ghost use Rattle.state.specs.State.{making_refusal_number, locks_of, with_queue, with_line, with_codes, with_controller};
 
 use controller::Controller;
 use line::Line;
@@ -35,14 +35,24 @@ pub struct Service {
     pub controller: Controller,
 }
 
-// A service made from lock bits. With refusal 1, for bits above 15, it is the service of bits 0.
+// Why no service is made: lock bits above 15.
 #[derive(Clone, Copy)]
-pub struct Made {
-    pub refusal: u8,
-    pub service: Service,
+pub enum MakingRefusal {
+    LockBits,
+}
+
+impl MakingRefusal {
+    pub fn number(self) -> u8
+        ensures { result ≡ making_refusal_number self }
+    {
+        match self {
+            MakingRefusal::LockBits => 1,
+        }
+    }
 }
 
 // The locks of four bits.
+#[tactic(auto, unfolding(crate::specs::State::locks_of))]
 pub fn locks_of(bits: u8) -> Locks
     ensures { result ≡ locks_of bits }
 {
@@ -58,44 +68,29 @@ pub fn locks_of(bits: u8) -> Locks
 pub fn with_queue(service: Service, queue: Queue) -> Service
     ensures { result ≡ with_queue service queue }
 {
-    let mut next = service;
-    next.queue = queue;
-    next
+    Service { queue, ..service }
 }
 
 // The service with another line.
 pub fn with_line(service: Service, line: Line) -> Service
     ensures { result ≡ with_line service line }
 {
-    let mut next = service;
-    next.line = line;
-    next
+    Service { line, ..service }
 }
 
 // The service with other codes coming.
 pub fn with_codes(service: Service, codes: Codes) -> Service
     ensures { result ≡ with_codes service codes }
 {
-    let ports = service.ports;
-    let shared = service.shared;
-    let queue = service.queue;
-    let line = service.line;
-    let controller = service.controller;
-    Service {
-        ports,
-        shared,
-        queue,
-        line,
-        codes,
-        controller,
-    }
+    Service { codes, ..service }
 }
 
 // The service with another controller.
 pub fn with_controller(service: Service, controller: Controller) -> Service
     ensures { result ≡ with_controller service controller }
 {
-    let mut next = service;
-    next.controller = controller;
-    next
+    Service {
+        controller,
+        ..service
+    }
 }

@@ -12,28 +12,17 @@ pub mod status;
 fn e0_open(prefix: Prefix) -> bool
     ensures { result ≡ e0_open prefix }
 {
-    match prefix {
-        Prefix::Closed => false,
-        Prefix::E0 => true,
-        Prefix::E1 => false,
-        Prefix::E1Make => false,
-        Prefix::E1Break => false,
-    }
+    matches!(prefix, Prefix::E0)
 }
 
 fn e1_open(prefix: Prefix) -> bool
     ensures { result ≡ e1_open prefix }
 {
-    match prefix {
-        Prefix::Closed => false,
-        Prefix::E0 => false,
-        Prefix::E1 => true,
-        Prefix::E1Make => true,
-        Prefix::E1Break => true,
-    }
+    matches!(prefix, Prefix::E1 | Prefix::E1Make | Prefix::E1Break)
 }
 
 // Modifiers and locks.
+#[tactic(auto, unfolding(state::specs::Flags::byte17_of))]
 pub fn byte17(service: Service) -> u8
     ensures { result ≡ byte17_of service }
 {
@@ -42,8 +31,8 @@ pub fn byte17(service: Service) -> u8
     bits::byte(
         modifiers.shift.right,
         modifiers.shift.left,
-        port::down(modifiers.ctrl),
-        port::down(modifiers.alt),
+        modifiers.ctrl.down(),
+        modifiers.alt.down(),
         locks.scroll,
         locks.num,
         locks.caps,
@@ -52,6 +41,7 @@ pub fn byte17(service: Service) -> u8
 }
 
 // Left keys, held keys and the pause.
+#[tactic(auto, unfolding(state::specs::Flags::byte18_of))]
 pub fn byte18(service: Service) -> u8
     ensures { result ≡ byte18_of service }
 {
@@ -70,6 +60,7 @@ pub fn byte18(service: Service) -> u8
 }
 
 // Prefixes and right keys.
+#[tactic(auto, unfolding(state::specs::Flags::byte96_of))]
 pub fn byte96(service: Service) -> u8
     ensures { result ≡ byte96_of service }
 {
@@ -89,9 +80,9 @@ pub fn byte96(service: Service) -> u8
 }
 
 // The line.
+#[tactic(auto, unfolding(state::specs::Flags::byte97_of))]
 pub fn byte97(service: Service) -> u8
     ensures { result ≡ byte97_of service }
 {
-    let line = service.line;
-    line::byte97(line)
+    line::byte97(service.line)
 }

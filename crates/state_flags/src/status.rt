@@ -5,6 +5,7 @@ ghost use Rattle.state.specs.Flags.{status_high};
 use state::Service;
 
 // Its high byte.
+#[tactic(auto, unfolding(state::specs::Flags::status_high))]
 pub fn status_high(service: Service) -> u8
     ensures { result ≡ status_high service }
 {

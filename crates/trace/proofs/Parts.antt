@@ -6,13 +6,13 @@ use mathlib.Core.Bool.{Bool, true, false}
 use mathlib.Core.Path.{◌≡◌, refl, sym, ◌∙◌}
 use mathlib.Core.List.{List, [], ◌++◌, append_assoc, append-nil}
 use lib.ListN.{length, length-append}
+use Rattle.std.specs.Prelude.{Some, Ok}
 use Rattle.bits.specs.Choice.{when◌then◌else◌}
 use Rattle.bits.proofs.Choice.{by_test}
 use Rattle.bits.proofs.Tests.{not_both}
 use Rattle.state.specs.declared.Service.{Service}
 use Rattle.events.specs.declared.Event.{Event}
 use Rattle.events.specs.Run.{next}
-use Rattle.pack.specs.declared.Read.TheVariants as read
 use Rattle.pack.specs.Reading.{limit, read_at, refusal_of}
 use Rattle.pack.specs.Parsing.{parse_from, parse}
 use Rattle.pack.specs.Laws.{Stops}
@@ -26,7 +26,7 @@ use Rattle.trace.proofs.Tracing.{lines_event, lines_stop, lines_open, lines_ende
 use borrow.Author.Rules.{rules}
 
 -- what the rest of a pack prints: an event's report before what follows it, and the closing lines where reading stops
-printed_event : (service : Service) (pack : List ℕ) (offset : ℕ) (event : Event) (bytes : ℕ) → read_at pack offset ≡ read.Event event bytes
+printed_event : (service : Service) (pack : List ℕ) (offset : ℕ) (event : Event) (bytes : ℕ) → read_at pack offset ≡ Ok (Some (event, bytes))
     → printed_of service (parse_from pack offset) ≡ text_of (event_report service event) ++ printed_of (next service event) (parse_from pack (offset + bytes))
 unfolding printed_of
 printed_event service pack offset event bytes e = rw (from_next pack offset event bytes e, append_assoc)

@@ -6,13 +6,12 @@ use mathlib.Core.Bool.{true, false}
 use mathlib.Core.Path.{◌≡◌, refl}
 use mathlib.Core.List.{List, append-nil}
 use lib.ListN.{length, drop}
+use Rattle.std.specs.Prelude.{Some, None, Ok, Err}
 use Rattle.bits.specs.Choice.{when◌then◌else◌}
 use Rattle.state.specs.declared.Service.{Service}
 use Rattle.events.specs.declared.Event.{Event}
 use Rattle.events.specs.Run.{next}
-use Rattle.pack.specs.declared.Read.{Read}
-use Rattle.pack.specs.declared.Read.TheVariants as read
-use Rattle.pack.specs.Reading.{read_at, part_at, refusal_of}
+use Rattle.pack.specs.Reading.{Read, read_at, part_at, refusal_of}
 use Rattle.pack.specs.Laws.{Stops}
 use Rattle.pack.proofs.Walk.{part_on}
 use Rattle.report.specs.Text.{text_of}
@@ -29,19 +28,16 @@ unfolding closing_of
 closing_length end refusal = refl
 
 -- a reading that finds an event gives its report and goes on, any other closes
-pub lines_event : (n : ℕ) (pack : List ℕ) (service : Service) (offset : ℕ) (event : Event) (bytes : ℕ) → read_at pack offset ≡ read.Event event bytes
+pub lines_event : (n : ℕ) (pack : List ℕ) (service : Service) (offset : ℕ) (event : Event) (bytes : ℕ) → read_at pack offset ≡ Ok (Some (event, bytes))
     → lines_by (suc n) pack service offset ≡ text_then (text_of (event_report service event)) (lines_by n pack (next service event) (offset + bytes))
 unfolding lines_by
 lines_event n pack service offset event bytes e = rw e
 
 on_stop : (found : Read) (service : Service) (offset : ℕ) (from : Service → ℕ → Lines) → Stops found
     → lines_on found service offset from ≡ text_then (closing_of offset (refusal_of found)) (none_at (ended_at service offset))
-on_stop (read.Event _ _) service offset from none = elim none [ ]
-on_stop read.End service offset from none = rw append-nil
-on_stop read.UnknownTag service offset from none = rw append-nil
-on_stop read.CutShort service offset from none = rw append-nil
-on_stop read.TooLong service offset from none = rw append-nil
-on_stop read.Beyond service offset from none = rw append-nil
+on_stop (Ok (Some (_, _))) service offset from none = elim none [ ]
+on_stop (Ok None) service offset from none = rw append-nil
+on_stop (Err refusal) service offset from none = rw append-nil
 
 pub lines_stop : (n : ℕ) (pack : List ℕ) (service : Service) (offset : ℕ) → Stops (read_at pack offset)
     → lines_by (suc n) pack service offset ≡ text_then (closing_of offset (refusal_of (read_at pack offset))) (none_at (ended_at service offset))
@@ -84,7 +80,7 @@ begun pack service offset part text e = record { rest = e; written = record { fi
 
 pub reported : {pack : List ℕ} {all : Lines} {before text : List ℕ} {service : Service} {offset : ℕ} {part : List ℕ} {at left : ℕ}
     → Yet pack all before text service offset part at left → (event : Event) (bytes : ℕ) (text' : List ℕ) → 0 < left → at + 44 ≤ length text
-    → read_at pack offset ≡ read.Event event bytes → text' ≡ placed at 44 (text_of (event_report service event)) text
+    → read_at pack offset ≡ Ok (Some (event, bytes)) → text' ≡ placed at 44 (text_of (event_report service event)) text
     → Yet pack all before text' (next service event) (offset + bytes) (drop bytes part) (at + 44) (left - 1)
 reported {left = zero} yet event bytes text' some room found placed = absurd (omega arith)
 reported {pack = pack} {service = service} {offset = offset} {left = suc left} yet event bytes text' some room found placed =

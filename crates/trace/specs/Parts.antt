@@ -1,14 +1,12 @@
 -- The text of a pack in parts: what each part has, and that the parts one behind the other are the trace.
 -- Assumes nothing.
-use Rattle.std.specs.Prelude.{ℕ, zero, suc, ◌+◌, ◌*◌, ◌≤◌, true, false, ◌≡◌, List, [], ◌++◌, length, drop}
+use Rattle.std.specs.Prelude.{ℕ, zero, suc, ◌+◌, ◌*◌, ◌≤◌, true, false, ◌≡◌, List, [], ◌++◌, length, drop, Some, None, Ok, Err}
 use Rattle.bits.specs.Choice.{when◌then◌else◌}
 use Rattle.translation.specs.declared.CodeSet.TheVariants.{One}
 use Rattle.state.specs.declared.Service.{Service}
 use Rattle.state.specs.State.{new_service}
 use Rattle.events.specs.Run.{next}
-use Rattle.pack.specs.declared.Read.{Read}
-use Rattle.pack.specs.declared.Read.TheVariants as read
-use Rattle.pack.specs.Reading.{limit, read_at, refusal_of}
+use Rattle.pack.specs.Reading.{Read, limit, read_at, refusal_of}
 use Rattle.pack.specs.Parsing.{parse_from}
 use Rattle.report.specs.Text.{text_of}
 use Rattle.report.specs.Reported.{report_length, event_report}
@@ -56,12 +54,9 @@ closed_at service offset refusal = record { text = closing_of offset refusal; pl
 
 -- an event gives its report, and printing goes on behind it; any other reading gives the closing lines
 abbrev pub lines_on : Read → Service → ℕ → (Service → ℕ → Lines) → Lines
-lines_on (read.Event event bytes) service offset from = text_then (text_of (event_report service event)) (from (next service event) (offset + bytes))
-lines_on read.End service offset from = closed_at service offset (refusal_of read.End)
-lines_on read.UnknownTag service offset from = closed_at service offset (refusal_of read.UnknownTag)
-lines_on read.CutShort service offset from = closed_at service offset (refusal_of read.CutShort)
-lines_on read.TooLong service offset from = closed_at service offset (refusal_of read.TooLong)
-lines_on read.Beyond service offset from = closed_at service offset (refusal_of read.Beyond)
+lines_on (Ok (Some (event, bytes))) service offset from = text_then (text_of (event_report service event)) (from (next service event) (offset + bytes))
+lines_on (Ok None) service offset from = closed_at service offset (refusal_of (Ok None))
+lines_on (Err refusal) service offset from = closed_at service offset (refusal_of (Err refusal))
 
 -- the lines from an offset on that at most so many readings give
 unfoldable pub lines_by : ℕ → List ℕ → Service → ℕ → Lines

@@ -14,6 +14,7 @@ pub const REPORTS: usize = 372;
 pub const PART: usize = REPORTS * report::LENGTH;
 
 // A place in the text of a pack: before the report of the event at this offset, which this service will run; or, ended, behind the closing lines.
+// A flag and no `Option`: the theorems on parts speak of the service and the offset behind the end too.
 #[derive(Clone, Copy)]
 pub struct Place {
     pub service: Service,
@@ -32,10 +33,8 @@ pub struct Part {
 pub fn begin() -> Place
     ensures { result ≡ first_place }
 {
-    let made = service_making::make(CodeSet::One, 0);
-    let service = made.service;
     Place {
-        service,
+        service: service_making::make(CodeSet::One, 0).unwrap(),
         offset: 0,
         ended: false,
     }

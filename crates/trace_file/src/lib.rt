@@ -11,10 +11,9 @@ use std::io::{Read, Write};
 // One byte more than a pack may have, so that a longer one is seen to be too long.
 const INPUT: usize = pack_reading::LIMIT + 1;
 
-// What came of a trace: written whole, or a read or a write failed, and the error says why.
+// Why a trace is not written whole: a read or a write failed, and the error within says how.
 #[derive(Drop)]
-pub enum Traced {
-    Whole,
+pub enum TraceError {
     NotRead(io::Error),
     NotWritten(io::Error),
 }
@@ -33,17 +32,15 @@ fn output() -> [u8; trace::PART]
 
 // Reads on to the end. What it writes over is not looked at: a pack this long is refused whole.
 fn drain<R: Read>(reader: &mut R, pack: &mut [u8]) -> io::Result<()> {
-    let mut reads = usize::MAX;
-    while 0 < reads {
+    for _ in 0..u64::MAX {
         if reader.read(pack)? == 0 {
-            return Ok(());
+            break;
         }
-        reads -= 1;
     }
     Ok(())
 }
 
-// Reads to the end or to a read that fails. How many bytes of the buffer the pack has.
+// Reads to the end or to a read that fails. How many bytes of the buffer the pack has. The loop counts bytes and not rounds, and needs no heap.
 fn read_pack<R: Read>(reader: &mut R, pack: &mut [u8]) -> io::Result<usize>
     ensures { IfOk result (λ count. count ≤ length pack.new) }
 {
@@ -60,21 +57,17 @@ fn read_pack<R: Read>(reader: &mut R, pack: &mut [u8]) -> io::Result<usize>
 }
 
 // Nothing is written before the pack is read to its end, so that a failed read leaves the writer as it was.
-pub fn write_trace<R: Read, W: Write>(reader: &mut R, writer: &mut W) -> Traced {
+pub fn write_trace<R: Read, W: Write>(reader: &mut R, writer: &mut W) -> Result<(), TraceError> {
     let mut pack = input();
-    let length = match read_pack(reader, &mut pack) {
-        Ok(count) => count,
-        Err(error) => return Traced::NotRead(error),
-    };
+    let length = read_pack(reader, &mut pack).map_err(TraceError::NotRead)?;
     let mut text = output();
     let mut place = trace::begin();
     while !place.ended {
         let part = trace_parts::next_part(&pack[..length], place, &mut text);
-        let printed = part.length;
-        if let Err(error) = writer.write_all(&text[..printed]) {
-            return Traced::NotWritten(error);
-        }
+        writer
+            .write_all(&text[..part.length])
+            .map_err(TraceError::NotWritten)?;
         place = part.place;
     }
-    Traced::Whole
+    Ok(())
 }

@@ -10,7 +10,6 @@ ghost use Rattle.trace.specs.Trace.{closing_of};
 ghost use Rattle.trace.specs.Parts.{place_at, ended_at, part_of, part_in};
 
 use events::Event;
-use pack::Read;
 use state::Service;
 use trace::{PART, Part, Place, REPORTS};
 
@@ -19,6 +18,7 @@ const CLOSING: usize = 19;
 // The closing lines, with a point for each character that is filled in.
 const BLANK: [u8; CLOSING] = *b"end=....\nrefused=.\n";
 
+#[tactic(auto, unfolding(trace::specs::Trace::closing_of))]
 fn closing(end: u16, refusal: u8) -> [u8; CLOSING]
     ensures { result ≡ closing_of end refusal }
 {
@@ -34,6 +34,7 @@ fn closing(end: u16, refusal: u8) -> [u8; CLOSING]
 }
 
 // The closing lines from an index of the text on, which end the printing there.
+#[tactic(auto, unfolding(trace::specs::Trace::closing_of))]
 fn close_at(service: Service, end: u16, refusal: u8, text: &mut [u8], at: usize) -> Part
     requires { at + 19 ≤ length text.old }
     ensures place_value { (result.place ≡ ended_at service end) × (result.length ≡ at + 19) }
@@ -58,8 +59,7 @@ fn report_at(service: Service, event: Event, text: &mut [u8], at: usize) -> Serv
     ensures value { result ≡ next service event }
     ensures text_after { text.new ≡ take at text.old ++ (text_of (event_report service event) ++ drop (at + 44) text.old) }
 {
-    let tried = lent::report_on_copy(service, event, &mut text[at..]);
-    tried.service
+    lent::report_on_copy(service, event, &mut text[at..]).unwrap_or(service)
 }
 
 // Printing goes on with the event at an offset.
@@ -91,24 +91,19 @@ pub fn next_part(pack: &[u8], place: Place, text: &mut [u8; PART]) -> Part
     }
     let mut service = place.service;
     let mut offset = place.offset;
-    let start = offset as usize;
-    let mut part = pack_reading::part_at(pack, start);
+    let mut part = pack_reading::part_at(pack, offset as usize);
     let mut at: usize = 0;
-    let mut left = REPORTS;
-    while 0 < left {
-        let read = pack_reading::read_first(part);
-        let Read::Event(event, bytes) = read else {
+    for _ in 0..REPORTS {
+        let Ok(Some((event, bytes))) = pack_reading::read_first(part) else {
             return close_at(service, offset, refusal_at(pack, offset), text, at);
         };
         service = report_at(service, event, text, at);
         part = &part[bytes..];
         offset += bytes as u16;
         at += report::LENGTH;
-        left -= 1;
     }
-    let next = place_at(service, offset);
     Part {
-        place: next,
+        place: place_at(service, offset),
         length: at,
     }
 }

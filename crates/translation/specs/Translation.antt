@@ -1,13 +1,11 @@
 -- Document 02, W-203: what a byte of set 2 becomes, and what it does to the mark.
 -- Assumes nothing.
-use Rattle.std.specs.Prelude.{ℕ, ◌+◌, ◌%◌, ◌||◌, List, [], ◌∷◌, eqb, ltb, get_or}
+use Rattle.std.specs.Prelude.{ℕ, ◌+◌, ◌%◌, ◌||◌, List, [], ◌∷◌, eqb, ltb, get_or, Option, None, Some}
 use Rattle.bits.specs.Choice.{when◌then◌else◌}
 use Rattle.translation.specs.declared.CodeSet.{CodeSet}
 use Rattle.translation.specs.declared.CodeSet.TheVariants.{One, Two}
 use Rattle.translation.specs.declared.Codes.{Codes}
 use Rattle.translation.specs.declared.Codes.TheVariants.{SetOne, SetTwo, SetTwoMarked}
-use Rattle.translation.specs.declared.Passed.{Passed}
-use Rattle.translation.specs.declared.Passed.TheVariants.{Nothing, Byte}
 use Rattle.translation.specs.declared.Translated.{Translated}
 use Rattle.translation.specs.Table.{table}
 
@@ -34,12 +32,12 @@ abbrev pub break_of : ℕ → ℕ
 break_of code = code % 0x80 + 0x80
 
 abbrev pub passes : Codes → ℕ → Translated
-passes codes byte = record { codes = codes; passed = Byte byte }
+passes codes byte = record { codes = codes; passed = Some byte }
 
 -- F0 marks the next code; FA and FE leave the mark, E0 and E1 close it; any other byte is a code, which closes it too
 unfoldable pub from_set_two : Codes → ℕ → ℕ → Translated
 from_set_two codes byte code =
-    when eqb byte 0xF0 then record { codes = SetTwoMarked; passed = Nothing }
+    when eqb byte 0xF0 then record { codes = SetTwoMarked; passed = None }
     else when eqb byte 0xFA || eqb byte 0xFE then passes codes byte
     else when eqb byte 0xE0 || eqb byte 0xE1 then passes SetTwo byte
     else passes SetTwo code
@@ -51,9 +49,9 @@ translated_of SetTwoMarked byte = from_set_two SetTwoMarked byte (break_of (set_
 
 -- Lists of bytes: what comes out, and the codes that come after them.
 
-abbrev pub passed_on : Passed → List ℕ → List ℕ
-passed_on Nothing later = later
-passed_on (Byte byte) later = byte ∷ later
+abbrev pub passed_on : Option ℕ → List ℕ → List ℕ
+passed_on None later = later
+passed_on (Some byte) later = byte ∷ later
 
 abbrev pub translation : Codes → List ℕ → List ℕ
 translation codes [] = []

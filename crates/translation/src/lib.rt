@@ -19,17 +19,10 @@ pub enum Codes {
     SetTwoMarked,
 }
 
-// What a byte becomes: nothing, or a byte of set 1.
-#[derive(Clone, Copy)]
-pub enum Passed {
-    Nothing,
-    Byte(u8),
-}
-
-// What comes of a byte: the codes that come after it, and what it becomes.
+// What comes of a byte: the codes that come after it, and the byte of set 1 that it becomes, if it becomes one.
 #[derive(Clone, Copy)]
 pub struct Translated {
-    pub passed: Passed,
+    pub passed: Option<u8>,
     pub codes: Codes,
 }
 
@@ -99,7 +92,7 @@ fn passing(codes: Codes, byte: u8) -> Translated
 {
     Translated {
         codes,
-        passed: Passed::Byte(byte),
+        passed: Some(byte),
     }
 }
 
@@ -110,7 +103,7 @@ fn from_set_two(codes: Codes, byte: u8, code: u8) -> Translated
     if byte == 0xF0 {
         return Translated {
             codes: Codes::SetTwoMarked,
-            passed: Passed::Nothing,
+            passed: None,
         };
     }
     if (byte == 0xFA) | (byte == 0xFE) {
@@ -123,6 +116,7 @@ fn from_set_two(codes: Codes, byte: u8, code: u8) -> Translated
 }
 
 // What a byte becomes, and what it does to the mark.
+#[tactic(auto, unfolding(crate::specs::Translation::translated_of))]
 pub fn translate(codes: Codes, byte: u8) -> Translated
     ensures { result ≡ translated_of codes byte }
 {

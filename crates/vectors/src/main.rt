@@ -4,7 +4,7 @@
 use std::env::{Env, FillError};
 use std::fs::File;
 use std::{io, str};
-use trace_file::Traced;
+use trace_file::TraceError;
 
 // The line of one name and the trace of the file that it names.
 fn write_named(rt: &HostRuntime, name: &str) -> io::Result<()> {
@@ -14,9 +14,9 @@ fn write_named(rt: &HostRuntime, name: &str) -> io::Result<()> {
     };
     println!(rt; "{name}")?;
     match trace_file::write_trace(&mut file, &mut rt.stdout()) {
-        Traced::Whole => Ok(()),
-        Traced::NotRead(error) => eprintln!(rt; "{name}: {error}"),
-        Traced::NotWritten(error) => eprintln!(rt; "standard output: {error}"),
+        Ok(()) => Ok(()),
+        Err(TraceError::NotRead(error)) => eprintln!(rt; "{name}: {error}"),
+        Err(TraceError::NotWritten(error)) => eprintln!(rt; "standard output: {error}"),
     }
 }
 

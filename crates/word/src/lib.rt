@@ -18,16 +18,20 @@ pub struct Word {
     ascii: Ascii,
 }
 
-pub fn scan_code(byte: u8) -> ScanCode
-    ensures { result ≡ code_of byte }
-{
-    ScanCode(byte)
+impl From<u8> for ScanCode {
+    ghost from_gives = { λ byte code. code ≡ code_of byte };
+
+    fn from(byte: u8) -> Self {
+        ScanCode(byte)
+    }
 }
 
-pub fn ascii_byte(byte: u8) -> Ascii
-    ensures { result ≡ ascii_of byte }
-{
-    Ascii(byte)
+impl From<u8> for Ascii {
+    ghost from_gives = { λ byte ascii. ascii ≡ ascii_of byte };
+
+    fn from(byte: u8) -> Self {
+        Ascii(byte)
+    }
 }
 
 impl ScanCode {
@@ -53,41 +57,47 @@ impl ScanCode {
     }
 }
 
-pub fn joined(scan: ScanCode, ascii: Ascii) -> Word
-    ensures { result ≡ word_with scan ascii }
-{
-    Word { scan, ascii }
-}
+impl Word {
+    pub fn new(scan: ScanCode, ascii: Ascii) -> Self
+        ensures { result ≡ word_with scan ascii }
+    {
+        Word { scan, ascii }
+    }
 
-pub fn high(word: Word) -> u8
-    ensures { result ≡ word.scan.0 }
-{
-    word.scan.0
-}
+    pub fn high(self) -> u8
+        ensures { result ≡ self.scan.0 }
+    {
+        self.scan.0
+    }
 
-pub fn low(word: Word) -> u8
-    ensures { result ≡ word.ascii.0 }
-{
-    word.ascii.0
-}
+    pub fn low(self) -> u8
+        ensures { result ≡ self.ascii.0 }
+    {
+        self.ascii.0
+    }
 
-// Whether functions 00 and 01 pass the word over.
-pub fn is_enhanced(word: Word) -> bool
-    ensures { result ≡ is_enhanced word }
-{
-    (0x85 <= word.scan.0) & (word.ascii.0 == 0x00)
+    // Whether functions 00 and 01 pass the word over.
+    pub fn is_enhanced(self) -> bool
+        ensures { result ≡ is_enhanced self }
+    {
+        (0x85 <= self.scan.0) & (self.ascii.0 == 0x00)
+    }
 }
 
 // The word of a 16-bit number, scan code high.
-pub fn from_number(number: u16) -> Word
-    ensures { result ≡ word_from number }
-{
-    joined(ScanCode((number / 256) as u8), Ascii((number % 256) as u8))
+impl From<u16> for Word {
+    ghost from_gives = { λ number word. word ≡ word_from number };
+
+    fn from(number: u16) -> Self {
+        Word::new(ScanCode((number / 256) as u8), Ascii((number % 256) as u8))
+    }
 }
 
 // The 16-bit number of a word, scan code high.
-pub fn number(word: Word) -> u16
-    ensures { result ≡ number_of word }
-{
-    (word.scan.0 as u16) * 256 + (word.ascii.0 as u16)
+impl From<Word> for u16 {
+    ghost from_gives = { λ word number. number ≡ number_of word };
+
+    fn from(word: Word) -> Self {
+        (word.scan.0 as u16) * 256 + (word.ascii.0 as u16)
+    }
 }

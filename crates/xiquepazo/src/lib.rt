@@ -12,15 +12,25 @@ use image::{FlagBytes, Image};
 use image_calls::{PortShown, Reading, Shown, Tagged};
 use translation::CodeSet;
 
+fn make(set: CodeSet, image: &mut Image, bits: u8) -> u8
+    ensures { (image.new ≡ (make_to set image.old bits).image) × (result ≡ (make_to set image.old bits).refusal) }
+{
+    match image_renewal::make(set, bits) {
+        Ok(made) => {
+            *image = made;
+            0
+        }
+        Err(refusal) => refusal.number(),
+    }
+}
+
 // A service newly made on set 1 with four lock bits, or refusal 1.
 #[unsafe(no_mangle)]
 pub extern "C" fn xiquepazo_make(image: &mut Image, bits: u8) -> u8
     ensures { (image.new ≡ (make_to CodeSet.One image.old bits).image)
         × (result ≡ (make_to CodeSet.One image.old bits).refusal) }
 {
-    let refused = image_renewal::make(*image, bits);
-    *image = refused.image;
-    refused.refusal
+    make(CodeSet::One, image, bits)
 }
 
 // The same on set 2.
@@ -29,9 +39,15 @@ pub extern "C" fn xiquepazo_make_set_2(image: &mut Image, bits: u8) -> u8
     ensures { (image.new ≡ (make_to CodeSet.Two image.old bits).image)
         × (result ≡ (make_to CodeSet.Two image.old bits).refusal) }
 {
-    let refused = image_renewal::make_set_two(*image, bits);
-    *image = refused.image;
-    refused.refusal
+    make(CodeSet::Two, image, bits)
+}
+
+fn change(set: CodeSet, image: &mut Image) -> Shown
+    ensures { (image.new ≡ (change_to set image.old).image) × (result ≡ (change_to set image.old).shown) }
+{
+    let changed = image_over_event::change(set, *image);
+    *image = changed.image;
+    changed.shown
 }
 
 // A change to set 1, also from set 1.
@@ -40,9 +56,7 @@ pub extern "C" fn xiquepazo_to_set_1(image: &mut Image) -> Shown
     ensures { (image.new ≡ (change_to CodeSet.One image.old).image)
         × (result ≡ (change_to CodeSet.One image.old).shown) }
 {
-    let changed = image_over_event::to_set_one(*image);
-    *image = changed.image;
-    changed.shown
+    change(CodeSet::One, image)
 }
 
 // A change to set 2, also from set 2: it closes the mark.
@@ -51,9 +65,7 @@ pub extern "C" fn xiquepazo_to_set_2(image: &mut Image) -> Shown
     ensures { (image.new ≡ (change_to CodeSet.Two image.old).image)
         × (result ≡ (change_to CodeSet.Two image.old).shown) }
 {
-    let changed = image_over_event::to_set_two(*image);
-    *image = changed.image;
-    changed.shown
+    change(CodeSet::Two, image)
 }
 
 // Any event, by its capital; or refusal 6.
@@ -123,15 +135,21 @@ pub extern "C" fn xiquepazo_frame_of(byte: u8) -> u16
     frame::write(byte)
 }
 
+fn port_event(image: &mut Image, event: PortEvent) -> PortShown
+    ensures { (image.new ≡ (port_to image.old event).image) × (result ≡ (port_to image.old event).shown) }
+{
+    let changed = image_ports::port_event(*image, event);
+    *image = changed.image;
+    changed.shown
+}
+
 // A byte from the keyboard reaches the controller; or refusal 14.
 #[unsafe(no_mangle)]
 pub extern "C" fn xiquepazo_from_keyboard(image: &mut Image, byte: u8) -> PortShown
     ensures { (image.new ≡ (port_to image.old (PortEvent.FromKeyboard byte)).image)
         × (result ≡ (port_to image.old (PortEvent.FromKeyboard byte)).shown) }
 {
-    let changed = image_ports::from_keyboard(*image, byte);
-    *image = changed.image;
-    changed.shown
+    port_event(image, PortEvent::FromKeyboard(byte))
 }
 
 // A read of port 60, which feeds the key that it gives.
@@ -140,9 +158,7 @@ pub extern "C" fn xiquepazo_read_60(image: &mut Image) -> PortShown
     ensures { (image.new ≡ (port_to image.old PortEvent.Read60).image)
         × (result ≡ (port_to image.old PortEvent.Read60).shown) }
 {
-    let changed = image_ports::read_60(*image);
-    *image = changed.image;
-    changed.shown
+    port_event(image, PortEvent::Read60)
 }
 
 // A read of port 64, the status.
@@ -151,9 +167,7 @@ pub extern "C" fn xiquepazo_read_64(image: &mut Image) -> PortShown
     ensures { (image.new ≡ (port_to image.old PortEvent.Read64).image)
         × (result ≡ (port_to image.old PortEvent.Read64).shown) }
 {
-    let changed = image_ports::read_64(*image);
-    *image = changed.image;
-    changed.shown
+    port_event(image, PortEvent::Read64)
 }
 
 // A byte written to port 60, the command byte; or refusal 16.
@@ -162,9 +176,7 @@ pub extern "C" fn xiquepazo_write_60(image: &mut Image, byte: u8) -> PortShown
     ensures { (image.new ≡ (port_to image.old (PortEvent.Write60 byte)).image)
         × (result ≡ (port_to image.old (PortEvent.Write60 byte)).shown) }
 {
-    let changed = image_ports::write_60(*image, byte);
-    *image = changed.image;
-    changed.shown
+    port_event(image, PortEvent::Write60(byte))
 }
 
 // A byte written to port 64, a command; or refusal 15.
@@ -173,7 +185,5 @@ pub extern "C" fn xiquepazo_write_64(image: &mut Image, byte: u8) -> PortShown
     ensures { (image.new ≡ (port_to image.old (PortEvent.Write64 byte)).image)
         × (result ≡ (port_to image.old (PortEvent.Write64 byte)).shown) }
 {
-    let changed = image_ports::write_64(*image, byte);
-    *image = changed.image;
-    changed.shown
+    port_event(image, PortEvent::Write64(byte))
 }

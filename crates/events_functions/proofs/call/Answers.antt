@@ -1,43 +1,44 @@
 -- The proof of `events_functions::call`.
 -- Assumes nothing.
-use borrow.Author.Tests.{eq-eqb, ne_eqb}
+use borrow.Author.Tests.{ne_eqb}
 use Rattle.bits.specs.Choice.{when◌then◌else◌}
 use Rattle.events.specs.Functions.{call_of}
-use borrow.Author.Rules.{rules}
 use Rattle.events_functions.proofs.call.Goals as goal
 
-pub returns-then-function-eq0 : goal.returns-then-function-eq0
+pub returns-in-0 : goal.returns-in-0
 unfolding call_of when◌then◌else◌
-returns-then-function-eq0 c = simp (c.take_as_old.ensures, eq-eqb _ _ c.if-function-eq0.true)
+returns-in-0 c = simp (c.take.ensures, c.in-0.is)
 
-pub returns-then-function-eq1 : goal.returns-then-function-eq1
+pub returns-in-1 : goal.returns-in-1
 unfolding call_of when◌then◌else◌
-returns-then-function-eq1 c = simp (c.look_as_old.ensures, eq-eqb _ _ c.if-function-eq1.true, ne_eqb _ _ c.if-function-eq0.false)
+returns-in-1 c = simp (c.look.ensures, c.in-1.is)
 
-pub returns-then-function-eq16 : goal.returns-then-function-eq16
+pub returns-in-16 : goal.returns-in-16
 unfolding call_of when◌then◌else◌
-returns-then-function-eq16 c = simp (c.take.ensures, eq-eqb _ _ c.if-function-eq16.true, ne_eqb _ _ c.if-function-eq1.false, ne_eqb _ _ c.if-function-eq0.false)
+returns-in-16 c = simp (c.take-in-16.ensures, c.in-16.is)
 
-pub returns-then-function-eq17 : goal.returns-then-function-eq17
+pub returns-in-17 : goal.returns-in-17
 unfolding call_of when◌then◌else◌
-returns-then-function-eq17 c = simp (c.look.ensures, eq-eqb _ _ c.if-function-eq17.true, ne_eqb _ _ c.if-function-eq16.false, ne_eqb _ _ c.if-function-eq1.false, ne_eqb _ _ c.if-function-eq0.false)
+returns-in-17 c = simp (c.look-in-17.ensures, c.in-17.is)
 
-pub returns-then-function-eq2 : goal.returns-then-function-eq2
+pub returns-in-2 : goal.returns-in-2
 unfolding call_of when◌then◌else◌
-returns-then-function-eq2 c = simp (c.status.ensures, ← c.byte17.ensures, eq-eqb _ _ c.if-function-eq2.true, ne_eqb _ _ c.if-function-eq17.false, ne_eqb _ _ c.if-function-eq16.false, ne_eqb _ _ c.if-function-eq1.false, ne_eqb _ _ c.if-function-eq0.false)
+returns-in-2 c = simp (c.status.ensures, c.in-2.is, ← c.byte17.ensures)
 
-pub returns-then-function-eq18 : goal.returns-then-function-eq18
+pub returns-in-18 : goal.returns-in-18
 unfolding call_of when◌then◌else◌
-returns-then-function-eq18 c = simp (c.status-then-function-eq18.ensures, ← c.byte17-then-function-eq18.ensures, ← c.status_high.ensures, eq-eqb _ _ c.if-function-eq18.true, ne_eqb _ _ c.if-function-eq2.false, ne_eqb _ _ c.if-function-eq17.false, ne_eqb _ _ c.if-function-eq16.false, ne_eqb _ _ c.if-function-eq1.false, ne_eqb _ _ c.if-function-eq0.false)
+returns-in-18 c = simp (c.status-in-18.ensures, c.in-18.is, ← c.byte17-in-18.ensures, ← c.status_high.ensures)
 
-pub returns-then-function-eq3 : goal.returns-then-function-eq3
+pub returns-in-3 : goal.returns-in-3
 unfolding call_of when◌then◌else◌
-returns-then-function-eq3 c = simp (c.set_rate.ensures, eq-eqb _ _ c.if-function-eq3.true, ne_eqb _ _ c.if-function-eq18.false, ne_eqb _ _ c.if-function-eq2.false, ne_eqb _ _ c.if-function-eq17.false, ne_eqb _ _ c.if-function-eq16.false, ne_eqb _ _ c.if-function-eq1.false, ne_eqb _ _ c.if-function-eq0.false)
+returns-in-3 c = simp (c.set_rate.ensures, c.in-3.is)
 
-pub returns-then-function-eq5 : goal.returns-then-function-eq5
+pub returns-in-5 : goal.returns-in-5
 unfolding call_of when◌then◌else◌
-returns-then-function-eq5 c = simp (c.store.ensures, ← c.joined.ensures, ← c.ascii_byte.ensures, ← c.scan_code.ensures, eq-eqb _ _ c.if-function-eq5.true, ne_eqb _ _ c.if-function-eq3.false, ne_eqb _ _ c.if-function-eq18.false, ne_eqb _ _ c.if-function-eq2.false, ne_eqb _ _ c.if-function-eq17.false, ne_eqb _ _ c.if-function-eq16.false, ne_eqb _ _ c.if-function-eq1.false, ne_eqb _ _ c.if-function-eq0.false)
+returns-in-5 c = simp (c.store.ensures, c.in-5.is, c.new.ensures, c.from.ensures, c.from-in-5.ensures)
 
-pub returns : goal.returns
+pub returns-in_default : goal.returns-in_default
 unfolding call_of when◌then◌else◌
-returns c = simp (c.refused.ensures, ne_eqb _ _ c.if-function-eq5.false, ne_eqb _ _ c.if-function-eq3.false, ne_eqb _ _ c.if-function-eq18.false, ne_eqb _ _ c.if-function-eq2.false, ne_eqb _ _ c.if-function-eq17.false, ne_eqb _ _ c.if-function-eq16.false, ne_eqb _ _ c.if-function-eq1.false, ne_eqb _ _ c.if-function-eq0.false)
+returns-in_default c =
+    let rest = c.in_default.in_default-own.rest in
+    simp (c.refused.ensures, ne_eqb _ _ rest.0.0.0.0.0.0.0.1, ne_eqb _ _ rest.0.0.0.0.0.0.1, ne_eqb _ _ rest.0.0.0.0.0.1, ne_eqb _ _ rest.0.0.0.0.1, ne_eqb _ _ rest.0.0.0.1, ne_eqb _ _ rest.0.0.1, ne_eqb _ _ rest.0.1, ne_eqb _ _ rest.1)

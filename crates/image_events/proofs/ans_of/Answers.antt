@@ -8,6 +8,6 @@ pub returns-then-unknown : goal.returns-then-unknown
 unfolding when◌then◌else◌
 returns-then-unknown c = simp c.if-unknown.true
 
-pub returns : goal.returns
+pub returns-else-unknown : goal.returns-else-unknown
 unfolding when◌then◌else◌
-returns c = simp c.if-unknown.false c.number.ensures
+returns-else-unknown c = simp c.if-unknown.false c.number.ensures

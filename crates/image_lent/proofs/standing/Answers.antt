@@ -7,4 +7,4 @@ use Rattle.image_lent.proofs.standing.Goals as goal
 
 pub returns : goal.returns
 unfolding recognised when◌then◌else◌
-returns c = simp c.event_on_copy-changed.ensures
+returns c = simp (c.event_on_copy-changed.ensures, c.default.ensures.0)

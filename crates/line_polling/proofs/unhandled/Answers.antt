@@ -2,12 +2,13 @@
 -- Assumes nothing.
 use Rattle.bits.specs.Choice.{when◌then◌else◌}
 use Rattle.line.specs.Poll.{unhandled_of}
+use Rattle.line_polling.proofs.Options.{is_value_as_equal}
 use Rattle.line_polling.proofs.unhandled.Goals as goal
 
-pub returns-then-is_value : goal.returns-then-is_value
+pub returns-then-eq : goal.returns-then-eq
 unfolding unhandled_of when◌then◌else◌
-returns-then-is_value c = simp (simp c.is_value.ensures at c.if-is_value.true)
+returns-then-eq c = simp (is_value_as_equal, ← c.eq.ensures, c.if-eq.true)
 
 pub returns : goal.returns
 unfolding unhandled_of when◌then◌else◌
-returns c = simp (simp c.is_value.ensures at c.if-is_value.false)
+returns c = simp (is_value_as_equal, ← c.eq.ensures, c.if-eq.false)

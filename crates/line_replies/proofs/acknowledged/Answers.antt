@@ -8,6 +8,7 @@ pub returns-then-command : goal.returns-then-command
 unfolding acknowledged_of when◌then◌else◌
 returns-then-command c =
     simp (
+      c.replied.ensures,
       c.ended.ensures,
       ← c.mark_done.ensures,
       c.if-command.true,
@@ -17,6 +18,7 @@ pub returns : goal.returns
 unfolding acknowledged_of when◌then◌else◌
 returns c =
     simp (
+      c.replied-2.ensures,
       c.in_phase.ensures,
       ← c.operand.ensures,
       c.if-command.false,

@@ -15,4 +15,4 @@ pub returns : goal.returns
 unfolding ended_of when◌then◌else◌
 returns c =
     let rate = simp c.is_led.ensures at c.if-is_led.false in
-    simp (rate, after_rate _ rate)
+    simp (c.in_phase.ensures, rate, after_rate _ rate)

@@ -9,6 +9,7 @@ pub returns-then-command-lt3 : goal.returns-then-command-lt3
 unfolding failed_of when◌then◌else◌
 returns-then-command-lt3 c =
     simp (
+      c.replied.ensures,
       c.in_phase.ensures,
       lt-ltb _ _ c.if-command-lt3.true,
     )
@@ -17,6 +18,7 @@ pub returns : goal.returns
 unfolding failed_of when◌then◌else◌
 returns c =
     simp (
+      c.replied-2.ensures,
       c.ended.ensures,
       ← c.mark_abandoned.ensures,
       le-ltb _ _ c.if-command-lt3.false,

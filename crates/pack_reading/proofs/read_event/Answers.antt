@@ -2,7 +2,6 @@
 -- Assumes nothing.
 use Rattle.pack.proofs.Reading.{to_end, read_too_long, read_beyond, read_within}
 use native.Mathlib.Omega.{arith}
-use borrow.Author.Rules.{rules}
 use Rattle.pack_reading.proofs.read_event.Goals as goal
 
 pub returns-then-pack-gt-LIMIT : goal.returns-then-pack-gt-LIMIT

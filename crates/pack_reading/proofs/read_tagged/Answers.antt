@@ -1,39 +1,55 @@
 -- The proof of `pack_reading::read_tagged`.
 -- Assumes nothing.
-use borrow.Author.Tests.{eq-eqb, ne_eqb}
+use mathlib.Core.Path.{sym}
+use borrow.Author.Tests.{ne_eqb}
+use Rattle.std.proofs.lemmas.Result.{err_from_is_err_and}
 use Rattle.bits.specs.Choice.{when◌then◌else◌}
+use Rattle.events.specs.declared.Event.TheVariants.{Key, Scan}
 use Rattle.pack.specs.Reading.{tagged_of}
-use borrow.Author.Rules.{rules}
 use Rattle.pack_reading.proofs.read_tagged.Goals as goal
 
-pub returns-then-tag-eq-KEY : goal.returns-then-tag-eq-KEY
+pub returns-in_err-read_byte-in-75 : goal.returns-in_err-read_byte-in-75
 unfolding tagged_of when◌then◌else◌
-returns-then-tag-eq-KEY c = simp (c.read_key.ensures, eq-eqb _ _ c.if-tag-eq-KEY.true)
+returns-in_err-read_byte-in-75 c =
+    let p = err_from_is_err_and c.from_residual.result c.from_residual.ensures.1 in
+    rw (p.1, p.2, c.in-75.is) (sym (c.in_err-read_byte-in-75.ensures Key))
 
-pub returns-then-tag-eq-CALL : goal.returns-then-tag-eq-CALL
+pub returns-in_ok-read_byte-in-75 : goal.returns-in_ok-read_byte-in-75
 unfolding tagged_of when◌then◌else◌
-returns-then-tag-eq-CALL c = simp (c.read_call.ensures, eq-eqb _ _ c.if-tag-eq-CALL.true, ne_eqb _ _ c.if-tag-eq-KEY.false)
+returns-in_ok-read_byte-in-75 c = rw c.in-75.is (sym (c.in_ok-read_byte-in-75.ensures Key))
 
-pub returns-then-tag-eq-POLL : goal.returns-then-tag-eq-POLL
+pub returns-in-67 : goal.returns-in-67
 unfolding tagged_of when◌then◌else◌
-returns-then-tag-eq-POLL c = simp (eq-eqb _ _ c.if-tag-eq-POLL.true, ne_eqb _ _ c.if-tag-eq-CALL.false, ne_eqb _ _ c.if-tag-eq-KEY.false)
+returns-in-67 c = rw c.in-67.is c.read_call.ensures
 
-pub returns-then-tag-eq-TIME_OUT : goal.returns-then-tag-eq-TIME_OUT
+pub returns-in-80 : goal.returns-in-80
 unfolding tagged_of when◌then◌else◌
-returns-then-tag-eq-TIME_OUT c = simp (eq-eqb _ _ c.if-tag-eq-TIME_OUT.true, ne_eqb _ _ c.if-tag-eq-POLL.false, ne_eqb _ _ c.if-tag-eq-CALL.false, ne_eqb _ _ c.if-tag-eq-KEY.false)
+returns-in-80 c = rw c.in-80.is
 
-pub returns-then-tag-eq-EMPTY : goal.returns-then-tag-eq-EMPTY
+pub returns-in-84 : goal.returns-in-84
 unfolding tagged_of when◌then◌else◌
-returns-then-tag-eq-EMPTY c = simp (eq-eqb _ _ c.if-tag-eq-EMPTY.true, ne_eqb _ _ c.if-tag-eq-TIME_OUT.false, ne_eqb _ _ c.if-tag-eq-POLL.false, ne_eqb _ _ c.if-tag-eq-CALL.false, ne_eqb _ _ c.if-tag-eq-KEY.false)
+returns-in-84 c = rw c.in-84.is
 
-pub returns-then-tag-eq-RESTART : goal.returns-then-tag-eq-RESTART
+pub returns-in-69 : goal.returns-in-69
 unfolding tagged_of when◌then◌else◌
-returns-then-tag-eq-RESTART c = simp (eq-eqb _ _ c.if-tag-eq-RESTART.true, ne_eqb _ _ c.if-tag-eq-EMPTY.false, ne_eqb _ _ c.if-tag-eq-TIME_OUT.false, ne_eqb _ _ c.if-tag-eq-POLL.false, ne_eqb _ _ c.if-tag-eq-CALL.false, ne_eqb _ _ c.if-tag-eq-KEY.false)
+returns-in-69 c = rw c.in-69.is
 
-pub returns-then-tag-eq-SCAN : goal.returns-then-tag-eq-SCAN
+pub returns-in-82 : goal.returns-in-82
 unfolding tagged_of when◌then◌else◌
-returns-then-tag-eq-SCAN c = simp (c.read_scan.ensures, eq-eqb _ _ c.if-tag-eq-SCAN.true, ne_eqb _ _ c.if-tag-eq-RESTART.false, ne_eqb _ _ c.if-tag-eq-EMPTY.false, ne_eqb _ _ c.if-tag-eq-TIME_OUT.false, ne_eqb _ _ c.if-tag-eq-POLL.false, ne_eqb _ _ c.if-tag-eq-CALL.false, ne_eqb _ _ c.if-tag-eq-KEY.false)
+returns-in-82 c = rw c.in-82.is
 
-pub returns : goal.returns
+pub returns-in_err-read_byte-in-83 : goal.returns-in_err-read_byte-in-83
 unfolding tagged_of when◌then◌else◌
-returns c = simp (ne_eqb _ _ c.if-tag-eq-SCAN.false, ne_eqb _ _ c.if-tag-eq-RESTART.false, ne_eqb _ _ c.if-tag-eq-EMPTY.false, ne_eqb _ _ c.if-tag-eq-TIME_OUT.false, ne_eqb _ _ c.if-tag-eq-POLL.false, ne_eqb _ _ c.if-tag-eq-CALL.false, ne_eqb _ _ c.if-tag-eq-KEY.false)
+returns-in_err-read_byte-in-83 c =
+    let p = err_from_is_err_and c.from_residual-in_err-read_byte-in-83.result c.from_residual-in_err-read_byte-in-83.ensures.1 in
+    rw (p.1, p.2, c.in-83.is) (sym (c.in_err-read_byte-in-83.ensures Scan))
+
+pub returns-in_ok-read_byte-in-83 : goal.returns-in_ok-read_byte-in-83
+unfolding tagged_of when◌then◌else◌
+returns-in_ok-read_byte-in-83 c = rw c.in-83.is (sym (c.in_ok-read_byte-in-83.ensures Scan))
+
+pub returns-in_default : goal.returns-in_default
+unfolding tagged_of when◌then◌else◌
+returns-in_default c =
+    let r = c.in_default.in_default-own.rest in
+    simp (ne_eqb _ _ r.0.0.0.0.0.0.1, ne_eqb _ _ r.0.0.0.0.0.1, ne_eqb _ _ r.0.0.0.0.1, ne_eqb _ _ r.0.0.0.1, ne_eqb _ _ r.0.0.1, ne_eqb _ _ r.0.1, ne_eqb _ _ r.1)

@@ -1,24 +1,28 @@
 -- The proof of `pack_reading::rest`.
 -- Assumes nothing.
-use Rattle.pack.proofs.Reading.{to_end, no_event, kept}
-use Rattle.pack.proofs.Events.{read_is_encoded}
-use Rattle.pack.specs.Laws.{Stops}
-use Rattle.pack.specs.Reading.{first_of}
-use mathlib.Core.Path.{sym, subst, ◌∙◌}
+use mathlib.Core.Path.{◌≡◌, sym}
 use native.Mathlib.Omega.{arith}
+use borrow.Author.Rules.{rules}
+use Rattle.std.specs.Prelude.{None, Ok}
+use Rattle.pack.specs.Reading.{first_of}
+use Rattle.pack.proofs.Reading.{to_end}
+use Rattle.pack.proofs.Events.{read_is_encoded}
 use Rattle.pack_reading.proofs.rest.Goals as goal
 
 pub returns-in_default : goal.returns-in_default
 returns-in_default c =
-    let part = c.args.part.now in
-    sym (kept (first_of part) part (subst Stops c.read_first-read.ensures (no_event c.read_first-read.result c.in_default.not-Event)))
+    let none : c.in_default.field-0 ≡ None = search rules in
+    let is = c.in_default.is in
+    let read = c.read_first.ensures in
+    let ended : first_of c.args.part.now ≡ Ok None = cc in
+    rw ended
 
 -- the event that was found, and its bytes
 pub slice_bounds-result-count : goal.slice_bounds-result-count
-slice_bounds-result-count c = omega (arith, read_is_encoded _ _ _ (sym c.read_first-read.ensures ∙ c.in-Event.is))
+slice_bounds-result-count c = omega (arith, read_is_encoded _ _ _ (sym (rw c.in-Ok-Some.field-0-is at c.in-Ok-Some.ensures)))
 
 pub returns : goal.returns
-returns c = simp to_end (sym (read_is_encoded _ _ _ (sym c.read_first-read.ensures ∙ c.in-Event.is)).rest)
+returns c = simp to_end (sym (read_is_encoded _ _ _ (sym (rw c.in-Ok-Some.field-0-is at c.in-Ok-Some.ensures))).rest)
 
 pub slice_bounds-result-start : goal.slice_bounds-result-start
-slice_bounds-result-start c = omega (arith, read_is_encoded _ _ _ (sym c.read_first-read.ensures ∙ c.in-Event.is))
+slice_bounds-result-start c = omega (arith, read_is_encoded _ _ _ (sym (rw c.in-Ok-Some.field-0-is at c.in-Ok-Some.ensures)))

@@ -14,8 +14,8 @@ pub returns : goal.returns
 unfolding when◌then◌else◌
 returns c =
     simp (
-      c.joined.ensures,
-      ← c.ascii_byte.ensures,
-      ← c.scan_code.ensures,
+      c.new.ensures,
+      c.from-2.ensures,
+      c.from.ensures,
       ne_eqb _ _ c.if-sum-eq0.false,
     )

@@ -23,7 +23,7 @@ pub returns : goal.returns
 unfolding opened when◌then◌else◌
 returns c =
     simp (
-      c.scan_code-scan.ensures,
+      c.from-scan.ensures,
       ne_eqb _ _ c.if-byte.false,
       ne_eqb _ _ c.if-byte-eq224.false,
     )

@@ -22,8 +22,8 @@ returns-in-E1 c = simp (c.after_e1.ensures, c.in-E1.is, c.if-byte.false)
 
 pub returns-in-E1Make : goal.returns-in-E1Make
 unfolding reading_of continued when◌then◌else◌
-returns-in-E1Make c = simp (c.after_e1_make.ensures, c.in-E1Make.is, c.if-byte.false)
+returns-in-E1Make c = simp (c.ending.ensures, c.in-E1Make.is, c.if-byte.false)
 
 pub returns-in-E1Break : goal.returns-in-E1Break
 unfolding reading_of continued when◌then◌else◌
-returns-in-E1Break c = simp (c.after_e1_break.ensures, c.in-E1Break.is, c.if-byte.false)
+returns-in-E1Break c = simp (c.ending-in-E1Break.ensures, c.in-E1Break.is, c.if-byte.false)

@@ -14,6 +14,6 @@ pub returns : goal.returns
 unfolding when◌then◌else◌
 returns c =
     simp (
-      c.from_number.ensures,
+      c.from.ensures,
       ne_eqb _ _ c.if-number-eq0.false,
     )

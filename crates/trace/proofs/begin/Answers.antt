@@ -2,9 +2,12 @@
 -- Assumes nothing.
 use Rattle.state.specs.State.{make_of}
 use Rattle.bits.specs.Choice.{when◌then◌else◌}
-use borrow.Author.Rules.{rules}
 use Rattle.trace.proofs.begin.Goals as goal
+
+pub unwrap-requires : goal.unwrap-requires
+unfolding make_of when◌then◌else◌
+unwrap-requires c = simp c.make.ensures
 
 pub returns : goal.returns
 unfolding make_of when◌then◌else◌
-returns c = simp c.make-made.ensures
+returns c = cc

@@ -4,9 +4,6 @@ use mathlib.Core.Path.{sym}
 use Rattle.word.proofs.Laws.{other_word_stays}
 use Rattle.word_conversion.proofs.as_old.Goals as goal
 
-pub returns-then-high-low : goal.returns-then-high-low
-returns-then-high-low c = c.converted.ensures
-
 pub returns : goal.returns
 returns c =
     sym (other_word_stays c.args.word (rw (← c.low.ensures, ← c.high.ensures) c.if-high-low.false))

@@ -1,33 +1,23 @@
 -- The proof of `word_conversion::converted`.
 -- Assumes nothing.
-use mathlib.Core.Path.{sym, ap, ◌∙◌}
-use Prim.Native.Nat.{ℕ}
+use Rattle.std.proofs.Common.{rules}
+use mathlib.Core.Path.{◌≡◌}
+use mathlib.Core.Bool.{true, not, ◌&&◌}
+use lib.Dec.{eqb}
+use borrow.Author.Tests.{ne_eqb}
 use Rattle.bits.specs.Choice.{when◌then◌else◌}
-use Rattle.word.specs.Word.{code_of, ascii_of, word_with}
-use Rattle.word.specs.OldWord.{old_word_of}
+use Rattle.word.proofs.Laws.{old_by_number}
 use Rattle.word_conversion.proofs.converted.Goals as goal
 
-pub returns-then-has_bytes : goal.returns-then-has_bytes
-unfolding old_word_of when◌then◌else◌
-returns-then-has_bytes c = simp (c.from_number.ensures, sym c.has_bytes.ensures ∙ c.if-has_bytes.true)
+pub returns-in_default : goal.returns-in_default
+unfolding when◌then◌else◌
+returns-in_default c =
+    let others = c.in_default.in_default-own.rest in
+    let enhanced : not (eqb c.args.word.scan.0 0x00) && eqb c.args.word.ascii.0 0xE0 ≡ true = rw (← c.low.ensures, ← c.high.ensures) c.if-high-low.true in
+    simp (c.new.ensures, c.from-in_default-2.ensures, c.from-in_default.ensures, c.high-in_default.ensures, old_by_number c.args.word _ c.from.ensures (search rules), ne_eqb _ _ others.0.0.1, ne_eqb _ _ others.0.1, ne_eqb _ _ others.1, enhanced)
 
-pub returns-then-has_bytes-2 : goal.returns-then-has_bytes-2
-unfolding old_word_of when◌then◌else◌
-returns-then-has_bytes-2 c =
-    simp (c.from_number-then-has_bytes-2.ensures, sym c.has_bytes-2.ensures ∙ c.if-has_bytes-2.true, sym c.has_bytes.ensures ∙ c.if-has_bytes.false)
-
-pub returns-then-has_bytes-3 : goal.returns-then-has_bytes-3
-unfolding old_word_of when◌then◌else◌
-returns-then-has_bytes-3 c =
-    simp (c.from_number-then-has_bytes-3.ensures, sym c.has_bytes-3.ensures ∙ c.if-has_bytes-3.true, sym c.has_bytes-2.ensures ∙ c.if-has_bytes-2.false, sym c.has_bytes.ensures ∙ c.if-has_bytes.false)
-
-pub returns-then-high-low : goal.returns-then-high-low
-unfolding old_word_of when◌then◌else◌
-returns-then-high-low c =
-    simp (c.joined.ensures, c.ascii_byte.ensures, c.scan_code.ensures, ← c.low.ensures, ← c.high-high.ensures, c.if-high-low.true, sym c.has_bytes-3.ensures ∙ c.if-has_bytes-3.false, sym c.has_bytes-2.ensures ∙ c.if-has_bytes-2.false, sym c.has_bytes.ensures ∙ c.if-has_bytes.false)
-    (ap (λ (high : ℕ). word_with (code_of high) (ascii_of 0x00)) c.high-high.ensures)
-
-pub returns : goal.returns
-unfolding old_word_of when◌then◌else◌
-returns c =
-    simp (← c.low.ensures, ← c.high-high.ensures, c.if-high-low.false, sym c.has_bytes-3.ensures ∙ c.if-has_bytes-3.false, sym c.has_bytes-2.ensures ∙ c.if-has_bytes-2.false, sym c.has_bytes.ensures ∙ c.if-has_bytes.false)
+pub returns-in_default-2 : goal.returns-in_default-2
+unfolding when◌then◌else◌
+returns-in_default-2 c =
+    let others = c.in_default.in_default-own.rest in
+    simp (old_by_number c.args.word _ c.from.ensures (search rules), ne_eqb _ _ others.0.0.1, ne_eqb _ _ others.0.1, ne_eqb _ _ others.1, ← c.high.ensures, ← c.low.ensures, c.if-high-low.false)

@@ -1,14 +1,14 @@
 -- The proof of `image_to_service::line_part::value_of`.
 -- Assumes nothing.
-use borrow.Author.Tests.{eq-eqb, ne_eqb}
+use borrow.Author.Tests.{ne_eqb}
 use Rattle.bits.specs.Choice.{when◌then◌else◌}
 use Rattle.image.specs.ImageLine.{value_in}
 use Rattle.image_to_service.proofs.line_part.value_of.Goals as goal
 
-pub returns-then-kind-eq0 : goal.returns-then-kind-eq0
+pub returns-in-0 : goal.returns-in-0
 unfolding value_in when◌then◌else◌
-returns-then-kind-eq0 c = simp (eq-eqb _ _ c.if-kind-eq0.true)
+returns-in-0 c = rw c.in-0.is
 
-pub returns : goal.returns
+pub returns-in_default : goal.returns-in_default
 unfolding value_in when◌then◌else◌
-returns c = simp (ne_eqb _ _ c.if-kind-eq0.false)
+returns-in_default c = simp (ne_eqb _ _ c.in_default.in_default-own.rest.1)
