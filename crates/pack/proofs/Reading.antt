@@ -14,7 +14,7 @@ use Rattle.bits.specs.Choice.{when◌then◌else◌}
 use Rattle.bits.proofs.Choice.{by_test}
 use Rattle.events.specs.declared.Event.{Event}
 use Rattle.events.specs.declared.Event.TheVariants.{Call}
-use Rattle.pack.specs.declared.ReadError.TheVariants.{CutShort, TooLong, Beyond}
+use Rattle.pack.specs.declared.ReadError.TheVariants.{UnknownTag, CutShort, TooLong, Beyond}
 use Rattle.pack.specs.Reading.{Read, limit, byte_of, call_of, tagged_of, first_of, read_at, part_at, rest_of}
 use Rattle.pack.specs.Laws.{Stops}
 
@@ -80,8 +80,17 @@ part_within pack start small = simp (le-ltb limit (length pack) small)
 pub part_beyond : (pack : List ℕ) (start : ℕ) → length pack ≤ limit → length pack < start → part_at pack start ≡ []
 part_beyond pack start small beyond = part_within pack start small ∙ drop_of_length-le pack {i = start} (omega arith)
 
+-- what is not an event with its bytes is no event
+pub no_event : (found : Read) → ((event : Event) (bytes : ℕ) → found ≡ Ok (Some (event, bytes)) → ⊥) → Stops found
+no_event (Ok (Some (event, bytes))) other = absurd (other event bytes refl)
+no_event (Ok None) other = tt
+no_event (Err refusal) other = tt
+
 -- a part with no event is handed on as it is
 pub kept : (found : Read) (part : List ℕ) → Stops found → rest_of found part ≡ part
 kept (Ok (Some (_, _))) part none = elim none [ ]
 kept (Ok None) part none = refl
-kept (Err refusal) part none = refl
+kept (Err UnknownTag) part none = refl
+kept (Err CutShort) part none = refl
+kept (Err TooLong) part none = refl
+kept (Err Beyond) part none = refl

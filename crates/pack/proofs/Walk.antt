@@ -9,6 +9,7 @@ use lib.Seq.{take-add, drop-drop}
 use Rattle.std.specs.Prelude.{Some, None, Ok, Err}
 use Rattle.bits.proofs.Choice.{either}
 use Rattle.events.specs.declared.Event.{Event}
+use Rattle.pack.specs.declared.ReadError.TheVariants.{UnknownTag, CutShort, TooLong, Beyond}
 use Rattle.pack.specs.Reading.{Read, limit, first_of, read_at, part_at, refusal_of}
 use Rattle.pack.specs.Encoding.{encode_event}
 use Rattle.pack.specs.Parsing.{Parsed, stopped, event_then, on_read, parse_by, parse_from, parse}
@@ -25,7 +26,10 @@ by_kind (Err refusal) goes stops = stops tt
 on_stop : (found : Read) (start : ℕ) (from : ℕ → Parsed) → Stops found → on_read found start from ≡ stopped start (refusal_of found)
 on_stop (Ok (Some (_, _))) start from none = elim none [ ]
 on_stop (Ok None) start from none = refl
-on_stop (Err refusal) start from none = refl
+on_stop (Err UnknownTag) start from none = refl
+on_stop (Err CutShort) start from none = refl
+on_stop (Err TooLong) start from none = refl
+on_stop (Err Beyond) start from none = refl
 
 -- an event or the end that is read at a start stands first in the part from there on
 pub event_there : (pack : List ℕ) (start : ℕ) (event : Event) (bytes : ℕ) → read_at pack start ≡ Ok (Some (event, bytes)) → first_of (drop start pack) ≡ Ok (Some (event, bytes))
