@@ -9,6 +9,7 @@ use Rattle.line.specs.State.{sent_of}
 use Rattle.translation.specs.declared.CodeSet.{CodeSet}
 use Rattle.state.specs.declared.Service.{Service}
 use Rattle.state.specs.declared.MakingRefusal.{MakingRefusal}
+use Rattle.state.specs.declared.NotMade.{NotMade}
 use Rattle.events.specs.declared.Event.{Event}
 use Rattle.events.specs.declared.Event.TheVariants.{Key, Call, Poll, TimeOut, Empty, Restart, Scan}
 use Rattle.events.specs.declared.Outcome.{Outcome}
@@ -165,9 +166,9 @@ tried_in image refusal after =
     when eqb refusal 0 then record { image = image_of after; refusal = 0 } else record { image = image; refusal = refusal }
 
 -- the image of a service that was made
-abbrev pub image_made : Result Service MakingRefusal → Result Image MakingRefusal
+abbrev pub image_made : Result Service NotMade → Result Image MakingRefusal
 image_made (Ok made) = Ok (image_of made)
-image_made (Err refusal) = Err refusal
+image_made (Err not_made) = Err not_made.refusal
 
 -- an image takes the place of the one that is lent, or is refused by its number
 abbrev pub made_in : Image → Result Image MakingRefusal → Refused

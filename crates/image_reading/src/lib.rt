@@ -1,9 +1,10 @@
 // Events as C has them, by tag and bytes, and a pack as C reads it, event by event.
 #![tactic(auto)]
 
-ghost use Rattle.std.specs.Prelude.{◌≡◌};
+ghost use Rattle.std.specs.Prelude.{◌≡◌, ◌≤◌, length, drop};
+ghost use Rattle.pack.specs.Reading.{first_of, rest_of};
 ghost use Rattle.image_calls.specs.Exports.{written, recognised};
-ghost use Rattle.image_calls.specs.Reads.{read_to};
+ghost use Rattle.image_calls.specs.Reads.{begins_at, read_to};
 
 use events::{Event, tags};
 use image_calls::{Reading, Tagged};
@@ -46,12 +47,21 @@ pub fn recognise(tagged: Tagged) -> Option<Event>
     }
 }
 
+// Where the part that is handed on begins.
+fn next_start(pack: &[u8], start: usize) -> usize
+    requires { start ≤ length pack.now }
+    ensures { result ≡ begins_at pack.now (rest_of (first_of (drop start pack.now)) (drop start pack.now)) }
+{
+    let rest = pack_reading::rest(&pack[start..]);
+    pack.len() - rest.len()
+}
+
 // The event at a start in a pack, and where the next begins.
 pub fn read_at(pack: &[u8], start: usize) -> Reading
     ensures { result ≡ read_to pack.now start }
 {
     let read = pack_reading::read_event(pack, start);
-    let Ok(Some((event, bytes))) = read else {
+    let Ok(Some((event, _))) = read else {
         return Reading {
             next: start,
             event: Tagged::default(),
@@ -59,7 +69,7 @@ pub fn read_at(pack: &[u8], start: usize) -> Reading
         };
     };
     Reading {
-        next: start + bytes,
+        next: next_start(pack, start),
         event: tagged_of(event),
         refusal: 0,
     }

@@ -3,14 +3,14 @@
 
 ghost use Rattle.std.specs.Prelude.{◌≡◌, OnErr};
 ghost use Rattle.state.specs.State.{making_refusal_number};
-ghost use Rattle.report.specs.Reported.{report_refusal_number, told_by, buffer_of};
-ghost use Rattle.lent_calls.specs.Lent.{number_told, made_in, answered_by, event_in, frame_in, change_in, port_in, tells_of, reported_in, resynchronised_in};
+ghost use Rattle.report.specs.Reported.{report_refusal_number, number_told, told_by, buffer_of};
+ghost use Rattle.lent_calls.specs.Lent.{made_in, answered_by, event_in, frame_in, change_in, port_in, tells_of, reported_in, resynchronised_in};
 
 use answers::Answer;
 use controller::PortEvent;
 use events::{Event, Outcome};
 use lent_calls::{Answered, PortAnswered, Stepped};
-use report::ReportRefusal;
+use report::{HandedBack, ReportRefusal};
 use state::{MakingRefusal, Service};
 use translation::CodeSet;
 
@@ -32,7 +32,7 @@ pub fn make(service: &mut Service, set: CodeSet, bits: u8) -> Result<(), MakingR
         × (number_told making_refusal_number result ≡ (made_in set service.old bits).refusal) }
     ensures refused { OnErr result (service.new ≡ service.old) }
 {
-    *service = service_making::make(set, bits)?;
+    *service = service_making::make(set, bits).map_err(|not_made| not_made.refusal)?;
     Ok(())
 }
 
@@ -89,8 +89,9 @@ pub fn report(service: &mut Service, event: Event, buffer: &mut [u8]) -> Result<
     ensures refused { OnErr result (service.new ≡ service.old) }
     ensures buffer_after { buffer.new ≡ buffer_of service.old event buffer.old }
 {
-    *service = report_call::report_event(*service, event, buffer)?;
-    Ok(())
+    let back = report_call::report_event(*service, event, buffer);
+    *service = back.service;
+    back.told
 }
 
 // As if the all-up run at both ports, E and R were fed; answered as this R is.
@@ -119,15 +120,15 @@ pub fn event_on_copy(service: Service, event: Event) -> Stepped
 }
 
 #[tactic(auto, unfolding(lent_calls::specs::Lent::reported_in))]
-pub fn report_on_copy(
-    service: Service,
-    event: Event,
-    buffer: &mut [u8],
-) -> Result<Service, ReportRefusal>
-    ensures value { tells_of (told_by service result) ≡ reported_in service event buffer.old }
+pub fn report_on_copy(service: Service, event: Event, buffer: &mut [u8]) -> HandedBack
+    ensures value { tells_of (told_by result) ≡ reported_in service event buffer.old }
+    ensures refused { OnErr result.told (result.service ≡ service) }
     ensures buffer_after { buffer.new ≡ buffer_of service event buffer.old }
 {
-    let mut copy = service;
-    crate::report(&mut copy, event, buffer)?;
-    Ok(copy)
+    let mut next = service;
+    let told = crate::report(&mut next, event, buffer);
+    HandedBack {
+        service: next,
+        told,
+    }
 }

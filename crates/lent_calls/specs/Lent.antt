@@ -6,7 +6,7 @@ use Rattle.controller.specs.declared.PortEvent.{PortEvent}
 use Rattle.state.specs.declared.Service.{Service}
 use Rattle.events.specs.declared.Event.{Event}
 use Rattle.events.specs.declared.Outcome.{Outcome}
-use Rattle.state.specs.declared.MakingRefusal.{MakingRefusal}
+use Rattle.state.specs.declared.NotMade.{NotMade}
 use Rattle.state.specs.State.{making_refusal_number, make_of}
 use Rattle.events.specs.Step.{step_of}
 use Rattle.events.specs.Frames.{frame_step_of}
@@ -30,15 +30,10 @@ pub record Tried : Type 0 where
   pub service : Service
   pub refusal : ℕ
 
--- the number of the refusal in what such a call returns, 0 for none
-abbrev pub number_told : {A E : Type 0} → (E → ℕ) → Result A E → ℕ
-number_told number (Ok done) = 0
-number_told number (Err refusal) = number refusal
-
 -- a service that was made replaces the one lent; a refusal leaves that one as it was
-abbrev pub tried_of : Service → Result Service MakingRefusal → Tried
+abbrev pub tried_of : Service → Result Service NotMade → Tried
 tried_of service (Ok made) = record { service = made; refusal = 0 }
-tried_of service (Err refusal) = record { service = service; refusal = making_refusal_number refusal }
+tried_of service (Err not_made) = record { service = service; refusal = making_refusal_number not_made.refusal }
 
 unfoldable pub made_in : CodeSet → Service → ℕ → Tried
 made_in set service bits = tried_of service (make_of set bits)

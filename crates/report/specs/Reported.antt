@@ -7,6 +7,7 @@ use Rattle.state.specs.declared.Service.{Service}
 use Rattle.events.specs.declared.Event.{Event}
 use Rattle.events.specs.Step.{step_of}
 use Rattle.events.specs.Run.{next}
+use Rattle.report.specs.declared.HandedBack.{HandedBack}
 use Rattle.report.specs.declared.Report.{Report}
 use Rattle.report.specs.declared.ReportRefusal.{ReportRefusal}
 use Rattle.report.specs.declared.ReportRefusal.TheVariants.{Call, ShortBuffer}
@@ -39,10 +40,14 @@ abbrev pub report_refusal_number : ReportRefusal → ℕ
 report_refusal_number (Call refusal) = refusal_number refusal
 report_refusal_number ShortBuffer = 9
 
--- what a result says: the service that it gives and 0, or the number of the refusal and the service as it was
-abbrev pub told_by : Service → Result Service ReportRefusal → Reported
-told_by service (Ok after) = record { refusal = 0; service = after }
-told_by service (Err refusal) = record { refusal = report_refusal_number refusal; service = service }
+-- the number of the refusal in what a call tells, 0 for none
+abbrev pub number_told : {A E : Type 0} → (E → ℕ) → Result A E → ℕ
+number_told number (Ok done) = 0
+number_told number (Err refusal) = number refusal
+
+-- what is handed back says: the service, and the number of the refusal
+abbrev pub told_by : HandedBack → Reported
+told_by back = record { refusal = number_told report_refusal_number back.told; service = back.service }
 
 -- 9 runs no event; an event that is run may be a call that 2 to 5 refuse, and then gives that number
 unfoldable pub reported_of : Service → Event → List ℕ → Reported

@@ -11,7 +11,7 @@ use answers::Answer;
 use events::Outcome;
 use line::Line;
 use port::{Locks, Shared};
-use state::{MakingRefusal, Ports, Service};
+use state::{MakingRefusal, NotMade, Ports, Service};
 use translation::CodeSet;
 
 // A service with no key down at either port, no code marked, no word and a new controller.
@@ -42,12 +42,15 @@ fn new(set: CodeSet, bits: u8) -> Service
     quiet(set, state::locks_of(bits), false, line::new())
 }
 
-// A service newly made on a set, with four lock bits.
-pub fn make(set: CodeSet, bits: u8) -> Result<Service, MakingRefusal>
+// A service newly made on a set, with four lock bits; above 15 the one of bits 0, beside the refusal.
+pub fn make(set: CodeSet, bits: u8) -> Result<Service, NotMade>
     ensures { result ≡ make_of set bits }
 {
     if 15 < bits {
-        return Err(MakingRefusal::LockBits);
+        return Err(NotMade {
+            refusal: MakingRefusal::LockBits,
+            service: new(set, 0),
+        });
     }
     Ok(new(set, bits))
 }

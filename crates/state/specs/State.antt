@@ -22,6 +22,7 @@ use Rattle.state.specs.declared.Ports.{Ports}
 use Rattle.state.specs.declared.Service.{Service}
 use Rattle.state.specs.declared.MakingRefusal.{MakingRefusal}
 use Rattle.state.specs.declared.MakingRefusal.TheVariants.{LockBits}
+use Rattle.state.specs.declared.NotMade.{NotMade}
 
 -- the lock bits: bit 0 Scroll, 1 Num, 2 Caps, 3 Insert
 unfoldable pub locks_of : ℕ → Locks
@@ -57,8 +58,11 @@ new_service set bits = with_locks set (locks_of bits)
 abbrev pub making_refusal_number : MakingRefusal → ℕ
 making_refusal_number LockBits = 1
 
-unfoldable pub make_of : CodeSet → ℕ → Result Service MakingRefusal
-make_of set bits = when ltb 15 bits then Err LockBits else Ok (new_service set bits)
+-- lock bits above 15 give the service of bits 0 beside their refusal
+unfoldable pub make_of : CodeSet → ℕ → Result Service NotMade
+make_of set bits =
+    when ltb 15 bits then Err (record { refusal = LockBits; service = new_service set 0 })
+    else Ok (new_service set bits)
 
 -- document 02, W-206: each device has a port of its own
 abbrev pub port_of : Device → Ports → Port

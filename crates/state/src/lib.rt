@@ -51,6 +51,13 @@ impl MakingRefusal {
     }
 }
 
+// What stands in the place of a service that is not made: the reason, and the service of bits 0.
+#[derive(Clone, Copy)]
+pub struct NotMade {
+    pub refusal: MakingRefusal,
+    pub service: Service,
+}
+
 // The locks of four bits.
 #[tactic(auto, unfolding(crate::specs::State::locks_of))]
 pub fn locks_of(bits: u8) -> Locks

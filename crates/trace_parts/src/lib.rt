@@ -59,9 +59,8 @@ fn report_at(service: Service, event: Event, text: &mut [u8], at: usize) -> Serv
     ensures value { result ≡ next service event }
     ensures text_after { text.new ≡ take at text.old ++ (text_of (event_report service event) ++ drop (at + 44) text.old) }
 {
-    let mut next = service;
-    let _ = lent::report(&mut next, event, &mut text[at..]);
-    next
+    let back = lent::report_on_copy(service, event, &mut text[at..]);
+    back.service
 }
 
 // Printing goes on with the event at an offset.

@@ -7,9 +7,9 @@ use Rattle.std.specs.Prelude.{ℕ, List, Option, Some, None, Ok, Err}
 use Rattle.events.specs.declared.Event.{Event}
 use Rattle.pack.specs.Reading.{Read, read_at}
 use Rattle.pack.specs.Laws.{Stops}
-use Rattle.pack.proofs.Walk.{event_at}
+use Rattle.pack.proofs.Walk.{event_there, event_at}
 use Rattle.image_calls.specs.declared.Tagged.{Tagged}
-use Rattle.image_calls.proofs.Readings.{stops_there, events_told}
+use Rattle.image_calls.proofs.Readings.{stops_there}
 use Rattle.image_reading.proofs.read_at.Goals as goal
 use Rattle.image_reading.proofs.read_at.Goals.{After-refusal, in_default-via-in-Ok+in_default, in_default-via-in_default}
 
@@ -42,8 +42,9 @@ event_read : (pack : List ℕ) (start : ℕ) (read : Read) (found : Option (Even
     → read ≡ read_at pack start → read ≡ Ok found → found ≡ Some (event, bytes) → read_at pack start ≡ Ok (Some (event, bytes))
 event_read pack start read found event bytes given is some = sym given ∙ is ∙ rw some
 
-pub overflow_add-result : goal.overflow_add-result
-overflow_add-result c =
+-- the event that was found
+pub next_start-requires : goal.next_start-requires
+next_start-requires c =
     let arm = c.in-Ok-Some in
     omega (arith, (event_at _ _ _ _ (event_read _ _ _ _ _ _ c.read_event-read.ensures arm.is (rw arm.is at arm.field-0-is))).within)
 
@@ -51,5 +52,4 @@ pub returns : goal.returns
 returns c =
     let arm = c.in-Ok-Some in
     let read = event_read _ _ _ _ _ _ c.read_event-read.ensures arm.is (rw arm.is at arm.field-0-is) in
-    let told = events_told _ _ _ _ read in
-    rw (c.tagged_of.ensures, ← told.next, read)
+    rw (c.tagged_of.ensures, c.next_start.ensures, event_there _ _ _ _ read, read)
